@@ -1,0 +1,124 @@
+-- The product and the addend on one scale: exactly where the shift is short, and with the lower one jammed where it is long. Assumes nothing.
+use mathlib.Core.Path.{_≡_, refl, sym, ap, _∙_}
+use mathlib.Core.Logic.{_⊎_, inl, inr}
+use mathlib.Core.Bool.{Bool}
+use Prim.Native.Nat.{ℕ, _+_, _-_, _*_, _/_, _%_, _^_, _≤_, _<_, min}
+use native.Mathlib.Nat.{le-trans, le-of-eq, one-mul, mul-le-mul, lt-of-lt-of-le, lt-of-le-of-lt, eq-zero-or-pos, zero-mul, mul-assoc, add-mul, mul-pos, mul-lt-mul-of-pos-right, mul-le-mul-right, mod-lt, div-le-self}
+use native.Mathlib.Omega.{arith}
+use lib.Dec.{lit≤, lit<}
+use lib.Pow.{pow-pos, split}
+use lib.Ieee.{binary64, sum}
+use Rattle.arithmetic.specs.Words.{jammed}
+use Rattle.arithmetic.specs.declared.mul_add.Parts.{Parts}
+use Rattle.arithmetic.specs.Steps.{Exponent, Operands}
+use Rattle.arithmetic.specs.Laws.Numbers.{lt-or-le, pow-split}
+use Rattle.arithmetic.proofs.Jamming.{jam-first, jam-second}
+
+-- ---- the product's exponent
+pub exponent-zero : (u v : Parts) → u .m * v .m ≡ 0 → Exponent u v 0
+exponent-zero u v z = record {
+  value = rw z (sym (zero-mul (2 ^ (u .j + v .j))));
+  low = lit< tt;
+  lead = λ h. omega arith;
+}
+
+pub exponent-sum : (u v : Parts) → u .j < 2046 → v .j < 2046 → (0 < u .j → 2 ^ 52 ≤ u .m) → (0 < v .j → 2 ^ 52 ≤ v .m) → (u .m ≡ 0 → ⊥) → (v .m ≡ 0 → ⊥) → Exponent u v (u .j + v .j)
+exponent-sum u v a b hu hv U W = record { value = refl; low = omega arith; lead = lead (lt-or-le 0 (u .j)) }
+  where
+    lead : (0 < u .j) ⊎ (u .j ≤ 0) → 1074 < u .j + v .j → 2 ^ 52 ≤ u .m * v .m
+    lead (inl p) h = let l : 1 ≤ v .m = omega arith in mul-le-mul (hu p) l
+    lead (inr p) h = let l : 1 ≤ u .m = omega arith in le-trans (hv (omega arith)) (le-trans (le-of-eq (sym (one-mul (v .m)))) (mul-le-mul-right (v .m) l))
+
+-- ---- jamming
+min-scale : (a x : ℕ) → 0 < x → min 1 (a * x) ≡ min 1 a
+min-scale a x X = go (eq-zero-or-pos a)
+  where
+    go : (a ≡ 0) ⊎ (0 < a) → min 1 (a * x) ≡ min 1 a
+    go (inl p) = let z = ap (λ (y : ℕ). y * x) p ∙ zero-mul x in omega arith
+    go (inr p) = let z = mul-pos p X in omega arith
+
+-- n * 2 ^ x and what it is jammed to at the scale 2 ^ e, each as a multiple of 2 ^ (e + 1) and a rest
+module _ (n d x e : ℕ) (E : d + x ≡ e) where
+  abbrev q : ℕ
+  q = n / 2 ^ (d + 1)
+
+  abbrev rest : ℕ
+  rest = n % 2 ^ (d + 1)
+
+  scale : 2 ^ (d + 1) * 2 ^ x ≡ 2 ^ (e + 1)
+  scale = pow-split (d + 1) x (e + 1) (omega arith)
+
+  exact : n * 2 ^ x ≡ q * 2 ^ (e + 1) + rest * 2 ^ x
+  exact =
+      ap (λ (y : ℕ). y * 2 ^ x) (sym (split n (d + 1))) ∙ add-mul (q * 2 ^ (d + 1)) rest (2 ^ x)
+      ∙ ap (λ (y : ℕ). y + rest * 2 ^ x) (mul-assoc q (2 ^ (d + 1)) (2 ^ x) ∙ ap (λ (y : ℕ). q * y) scale)
+
+  cut : jammed n d * 2 ^ e ≡ q * 2 ^ (e + 1) + min 1 rest * 2 ^ e
+  cut =
+      add-mul (q * 2) (min 1 rest) (2 ^ e)
+      ∙ ap (λ (y : ℕ). y + min 1 rest * 2 ^ e) (mul-assoc q 2 (2 ^ e) ∙ ap (λ (y : ℕ). q * y) (pow-split 1 e (e + 1) (omega arith)))
+
+  exact-lt : rest * 2 ^ x < 2 ^ (e + 1)
+  exact-lt = lt-of-lt-of-le (mul-lt-mul-of-pos-right (mod-lt n (pow-pos (d + 1))) (pow-pos x)) (le-of-eq scale)
+
+  cut-lt : min 1 rest * 2 ^ e < 2 ^ (e + 1)
+  cut-lt = lt-of-le-of-lt (mul-le-mul-right (2 ^ e) (one rest)) (lt-of-lt-of-le (twice (2 ^ e) (pow-pos e)) (le-of-eq (pow-split e 1 (e + 1) refl)))
+    where
+      one : (y : ℕ) → min 1 y ≤ 1
+      one y = omega arith
+
+      twice : (y : ℕ) → 0 < y → 1 * y < y * 2
+      twice y h = omega arith
+
+  alike : min 1 (rest * 2 ^ x) ≡ min 1 (min 1 rest * 2 ^ e)
+  alike = min-scale rest (2 ^ x) (pow-pos x) ∙ sym (min-scale (min 1 rest) (2 ^ e) (pow-pos e) ∙ again rest)
+    where
+      again : (y : ℕ) → min 1 (min 1 y) ≡ min 1 y
+      again y = omega arith
+
+  -- the other term is M * 2 ^ (e + 1)
+  module _ (a b M : ℕ) (wide : (e ≤ 1072) ⊎ (q + 2 ^ 54 < M)) (A : a ≡ M * 2 ^ (e + 1)) (B : b ≡ M * 2 ^ (e + 1)) (s t : Bool) where
+    pub first : sum binary64 s (n * 2 ^ x) t a (2 ^ 2148) ≡ sum binary64 s (jammed n d * 2 ^ e) t b (2 ^ 2148)
+    first = rw (exact, cut, A, B) (jam-first e M q (rest * 2 ^ x) (min 1 rest * 2 ^ e) exact-lt cut-lt alike wide s t)
+
+    pub second : sum binary64 s a t (n * 2 ^ x) (2 ^ 2148) ≡ sum binary64 s b t (jammed n d * 2 ^ e) (2 ^ 2148)
+    second = rw (exact, cut, A, B) (jam-second e M q (rest * 2 ^ x) (min 1 rest * 2 ^ e) exact-lt cut-lt alike wide s t)
+
+pub jammed-small : (n d : ℕ) → n < 2 ^ 106 → jammed n d < 2 ^ 127
+jammed-small n d h = lt-of-lt-of-le (go (n / 2 ^ (d + 1)) (n % 2 ^ (d + 1)) (div-le-self n (2 ^ (d + 1)))) (lit≤ {m = 2 ^ 108} {n = 2 ^ 127} tt)
+  where
+    go : (q r : ℕ) → q ≤ n → q * 2 + min 1 r < 324518553658426726783156020576256
+    go q r a = omega arith
+
+-- a shift up to a common scale
+pub shifted : (n d x e : ℕ) → d + x ≡ e → n * 2 ^ e ≡ n * 2 ^ d * 2 ^ x
+shifted n d x e h = ap (λ (y : ℕ). n * y) (sym (pow-split d x e h)) ∙ sym (mul-assoc n (2 ^ d) (2 ^ x))
+
+module _ (p ep m em : ℕ) (o : Operands p ep m em) (s t : Bool) where
+  -- the addend lies far above
+  pub far-above : ep ≤ em → 64 < em - ep → sum binary64 s (p * 2 ^ ep) t (m * 2 ^ em) (2 ^ 2148) ≡ sum binary64 s (jammed p (em - ep - 64) * 2 ^ (em - 64)) t ((m * 2 ^ 64 + 0) * 2 ^ (em - 64)) (2 ^ 2148)
+  far-above l h =
+      let half = shifted m 63 (em - 64 + 1) em (omega arith) in
+      first p (em - ep - 64) ep (em - 64) (omega arith) (m * 2 ^ em) ((m * 2 ^ 64 + 0) * 2 ^ (em - 64)) (m * 2 ^ 63) (go (lt-or-le em 1137)) half
+      (ap (λ (y : ℕ). y * 2 ^ (em - 64)) (flat (m * 2 ^ 64)) ∙ sym (shifted m 64 (em - 64) em (omega arith)) ∙ half) s t
+    where
+      flat : (y : ℕ) → y + 0 ≡ y
+      flat y = omega arith
+
+      wide : (q : ℕ) → q ≤ p → p < 81129638414606681695789005144064 → 4503599627370496 ≤ m → q + 18014398509481984 < m * 9223372036854775808
+      wide q a b d = omega arith
+
+      go : (em < 1137) ⊎ (1137 ≤ em) → (em - 64 ≤ 1072) ⊎ (p / 2 ^ (em - ep - 64 + 1) + 2 ^ 54 < m * 2 ^ 63)
+      go (inl a) = inl (omega arith)
+      go (inr a) = inr (wide (p / 2 ^ (em - ep - 64 + 1)) (div-le-self p (2 ^ (em - ep - 64 + 1))) (o .product-small) (o .addend-lead (omega arith)))
+
+  -- it lies far below
+  pub far-below : em < ep → 20 < ep - em → sum binary64 s (p * 2 ^ ep) t (m * 2 ^ em) (2 ^ 2148) ≡ sum binary64 s (p * 2 ^ 20 * 2 ^ (ep - 20)) t (jammed m (ep - em - 20) * 2 ^ (ep - 20)) (2 ^ 2148)
+  far-below l h =
+      let half = shifted p 19 (ep - 20 + 1) ep (omega arith) in
+      let high : 1074 < ep = omega (arith, o .addend-least) in
+      second m (ep - em - 20) em (ep - 20) (omega arith) (p * 2 ^ ep) (p * 2 ^ 20 * 2 ^ (ep - 20)) (p * 2 ^ 19)
+      (inr (wide (m / 2 ^ (ep - em - 20 + 1)) (div-le-self m (2 ^ (ep - em - 20 + 1))) (o .addend-small) (o .product-lead high))) half (sym (shifted p 20 (ep - 20) ep (omega arith)) ∙ half) s t
+    where
+      wide : (q : ℕ) → q ≤ m → m < 9007199254740992 → 4503599627370496 ≤ p → q + 18014398509481984 < p * 524288
+      wide q a b d = omega arith

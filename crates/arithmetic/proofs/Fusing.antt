@@ -1,0 +1,87 @@
+-- `mulAdd` by the kinds of its operands. Assumes nothing.
+use mathlib.Core.Path.{_≡_, refl, sym, ap, _∙_}
+use mathlib.Core.Bool.{Bool, true, false, cond, true≢false, false≢true}
+use Prim.Native.Nat.{ℕ, _+_, _*_, _^_}
+use native.Mathlib.Nat.{mul-assoc, mul-comm, mul-left-comm, mul-mul-mul-comm, mul-pos}
+use lib.Dec.{eqb}
+use lib.Pow.{pow-add, pow-pos}
+use lib.Ieee.{Float, nan, inf, fin, binary64, up, down, unlike, add, mul, sum}
+use lib.Ieee.Fits.{down-pos}
+use lib.Ieee.Exact.{HasValue}
+use lib.Ieee.Scale.{finite}
+use Rattle.arithmetic.specs.MulAdd.{mulAdd, infinityPlus}
+use Rattle.arithmetic.specs.Laws.Sums.{sum-same}
+
+-- ---- where one is no number or an infinity
+
+infinityPlus-is : (s : Bool) (b : Float) → add binary64 (inf s) b ≡ infinityPlus s b
+unfolding add infinityPlus
+infinityPlus-is s nan = refl
+infinityPlus-is s (inf u) = refl
+infinityPlus-is s (fin u k g) = refl
+
+unless : (z s : Bool) (b : Float) → add binary64 (cond z nan (inf s)) b ≡ cond z nan (infinityPlus s b)
+unless true s b = unfold add in refl
+unless false s b = infinityPlus-is s b
+
+pub first-special : (x a b : Float) → finite x ≡ false → add binary64 (mul binary64 x a) b ≡ mulAdd x a b
+unfolding mulAdd mul add
+first-special nan a b h = refl
+first-special (inf s) nan b h = refl
+first-special (inf s) (inf t) b h = infinityPlus-is (unlike s t) b
+first-special (inf s) (fin t n d) b h = unless (eqb n 0) (unlike s t) b
+first-special (fin s m e) a b h = absurd (true≢false h)
+
+pub second-special : (x a b : Float) → finite x ≡ true → finite a ≡ false → add binary64 (mul binary64 x a) b ≡ mulAdd x a b
+unfolding mulAdd mul add
+second-special nan a b h k = absurd (false≢true h)
+second-special (inf s) a b h k = absurd (false≢true h)
+second-special (fin s m e) nan b h k = refl
+second-special (fin s m e) (inf t) b h k = unless (eqb m 0) (unlike s t) b
+second-special (fin s m e) (fin t n d) b h k = absurd (true≢false k)
+
+pub third-special : (x a b : Float) → finite x ≡ true → finite a ≡ true → finite b ≡ false → b ≡ mulAdd x a b
+unfolding mulAdd
+third-special nan a b h k l = absurd (false≢true h)
+third-special (inf s) a b h k l = absurd (false≢true h)
+third-special (fin s m e) nan b h k l = absurd (false≢true k)
+third-special (fin s m e) (inf t) b h k l = absurd (false≢true k)
+third-special (fin s m e) (fin t n d) nan h k l = refl
+third-special (fin s m e) (fin t n d) (inf u) h k l = refl
+third-special (fin s m e) (fin t n d) (fin u k' g) h k l = absurd (true≢false l)
+
+-- ---- three finite values, in units of 1 / z
+
+product-cross : (p r h z x a d f : ℕ) → p * z ≡ x * d → r * z ≡ a * f → p * r * h * (z * z) ≡ x * a * (d * f * h)
+product-cross p r h z x a d f P R =
+    let l : p * r * h * (z * z) ≡ p * z * (r * z) * h = simp (mul-assoc, mul-comm, mul-left-comm) in
+    let m : x * d * (a * f) * h ≡ x * a * (d * f * h) = simp (mul-assoc, mul-comm, mul-left-comm) in
+    l ∙ ap (λ (y : ℕ). y * (r * z) * h) P ∙ ap (λ (y : ℕ). x * d * y * h) R ∙ m
+
+addend-cross : (k h z b d f : ℕ) → k * z ≡ b * h → k * (d * f) * (z * z) ≡ b * z * (d * f * h)
+addend-cross k h z b d f K =
+    let l : k * (d * f) * (z * z) ≡ k * z * z * (d * f) = simp (mul-assoc, mul-comm, mul-left-comm) in
+    let m : b * h * z * (d * f) ≡ b * z * (d * f * h) = simp (mul-assoc, mul-comm, mul-left-comm) in
+    l ∙ ap (λ (y : ℕ). y * z * (d * f)) K ∙ m
+
+-- with the values' signs s t u and magnitudes x, a, b
+in-units : (X A B : Float) (s t u : Bool) (x a b : ℕ) → HasValue X s x (2 ^ 1074) → HasValue A t a (2 ^ 1074) → HasValue B u b (2 ^ 1074) → mulAdd X A B ≡ sum binary64 (unlike s t) (x * a) u (b * 2 ^ 1074) (2 ^ 2148)
+unfolding mulAdd
+in-units nan A B s t u x a b p q r = absurd p
+in-units (inf s') A B s t u x a b p q r = absurd p
+in-units (fin s' m e) nan B s t u x a b p q r = absurd q
+in-units (fin s' m e) (inf t') B s t u x a b p q r = absurd q
+in-units (fin s' m e) (fin t' n d) nan s t u x a b p q r = absurd r
+in-units (fin s' m e) (fin t' n d) (inf u') s t u x a b p q r = absurd r
+in-units (fin s' m e) (fin t' n d) (fin u' k g) s t u x a b p q r =
+    sum-same binary64 (unlike s' t') u' (x * a) (b * 2 ^ 1074) (2 ^ 2148) (m * up e * (n * up d) * down g) (k * up g * (down e * down d)) (down e * down d * down g) (pow-pos 2148) (mul-pos (mul-pos (down-pos e) (down-pos d)) (down-pos g))
+    (product-cross (m * up e) (n * up d) (down g) (2 ^ 1074) x a (down e) (down d) (p .1) (q .1))
+    (addend-cross (k * up g) (down g) (2 ^ 1074) b (down e) (down d) (r .1))
+    ∙ rw (p .0, q .0, r .0)
+
+pub in-parts : (X A B : Float) (s t u : Bool) (xm xj am aj bm bj : ℕ) → HasValue X s (xm * 2 ^ xj) (2 ^ 1074) → HasValue A t (am * 2 ^ aj) (2 ^ 1074) → HasValue B u (bm * 2 ^ bj) (2 ^ 1074)
+    → mulAdd X A B ≡ sum binary64 (unlike s t) (xm * am * 2 ^ (xj + aj)) u (bm * 2 ^ (bj + 1074)) (2 ^ 2148)
+in-parts X A B s t u xm xj am aj bm bj p q r =
+    in-units X A B s t u (xm * 2 ^ xj) (am * 2 ^ aj) (bm * 2 ^ bj) p q r
+    ∙ ap (λ (y : ℕ). sum binary64 (unlike s t) y u (bm * 2 ^ bj * 2 ^ 1074) (2 ^ 2148)) (mul-mul-mul-comm xm (2 ^ xj) am (2 ^ aj) ∙ ap (λ (y : ℕ). xm * am * y) (sym (pow-add 2 xj aj)))
+    ∙ ap (λ (y : ℕ). sum binary64 (unlike s t) (xm * am * 2 ^ (xj + aj)) u y (2 ^ 2148)) (mul-assoc bm (2 ^ bj) (2 ^ 1074) ∙ ap (λ (y : ℕ). bm * y) (sym (pow-add 2 bj 1074)))

@@ -1,0 +1,14 @@
+mod Pairs
+mod Dropping
+mod Jamming
+mod Encoding
+mod Decoding
+mod Cutting
+mod OneScale
+mod Aligning
+mod Fusing
+mod Karatsuba
+mod SqrtPaths
+mod Truncating
+mod Exponential
+mod LnPaths

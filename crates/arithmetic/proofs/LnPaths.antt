@@ -1,0 +1,177 @@
+-- `ln` and `ln1p` on each of the ways through the code. Assumes nothing.
+use mathlib.Core.Path.{_≡_, refl, sym, ap, _∙_, subst}
+use mathlib.Core.Logic.{_⊎_, inl, inr}
+use mathlib.Core.Bool.{Bool, true, false, not, _&&_, _||_, cond, true≢false, false≢true}
+use Prim.Native.Nat.{ℕ, zero, suc, _+_, _-_, _*_, _^_, _≤_, _<_}
+use native.Mathlib.Nat.{zero-mul, mul-one, one-mul, mul-comm, mul-assoc, mul-pos, zero-lt-suc}
+use native.Mathlib.Omega.{arith}
+use borrow.Author.Tests.{lt-ltb, le-ltb, le-leb, lt-leb, ltb-false}
+use lib.IntN.{pos}
+use lib.Dec.{T, ltb, eqb, lt→ltb}
+use lib.Ieee.{Float, nan, inf, fin, binary64, up, down, minus, round, sum, add, sub, mul, div, neg, ofInt, isNan, lt, eq, le, ofBits}
+use lib.Ieee.Fits.{down-pos}
+use lib.Ieee.Back.{round-whole}
+use lib.Ieee.Bits.{is-true}
+use lib.Ieee.Exact.{HasValue}
+use lib.Ieee.Order.{round-mono}
+use lib.Ieee.Scale.{finite}
+use lib.Ieee.Positive.{num, den, den-pos, positive, positive-finite, first-pos, between, le→cross}
+use Rattle.arithmetic.specs.Operations.{_⊕_, _⊖_, _⊗_, _⊘_, bits, nought, one}
+use Rattle.arithmetic.specs.Exp.{ln2Low as L}
+use Rattle.arithmetic.specs.Ln.{mantissa, exponent, series, ln, ln1p}
+use Rattle.arithmetic.specs.Laws.Numbers.{lt-or-le}
+use Rattle.arithmetic.specs.Laws.Times.{cross, has-sign, has-finite, neg-num, neg-den, neg-sign, neg-finite}
+use Rattle.arithmetic.specs.Laws.Compare.{finite-no-nan}
+use Rattle.arithmetic.specs.Laws.Sums.{sum-same, add-is}
+
+-- ---- the difference of two whole numbers is exact
+whole-difference : (n c : ℕ) → sum binary64 false n true c 1 ≡ ofInt binary64 (minus n c)
+unfolding sum ofInt
+whole-difference n c = go (lt-or-le n c)
+  where
+    go : (n < c) ⊎ (c ≤ n) → sum binary64 false n true c 1 ≡ ofInt binary64 (minus n c)
+    go (inl h) = let e : c - n ≡ suc (c - suc n) = omega arith in rw (lt-ltb n c h, lt-leb c n h, e)
+    go (inr h) = rw (le-ltb n c h, le-leb c n h)
+
+whole-value : (n : ℕ) → n ≤ 2 ^ 53 → HasValue (ofInt binary64 (pos n)) false n 1
+unfolding ofInt
+whole-value n h = round-whole binary64 false n h
+
+pub sub-whole : (n c : ℕ) → n ≤ 2 ^ 53 → c ≤ 2 ^ 53 → ofInt binary64 (pos n) ⊖ ofInt binary64 (pos c) ≡ ofInt binary64 (minus n c)
+unfolding sub
+sub-whole n c N C =
+    let x = ofInt binary64 (pos n) in
+    let y = ofInt binary64 (pos c) in
+    let v = whole-value n N in
+    let w = whole-value c C in
+    let F = has-finite y false c 1 w in
+    let A : num x * den y * 1 ≡ n * (den x * den y) = mul-one (num x * den y) ∙ ap (λ (z : ℕ). z * den y) (sym (mul-one (num x)) ∙ cross x false n 1 v) ∙ mul-assoc n (den x) (den y) in
+    let B : num y * den x * 1 ≡ c * (den x * den y) =
+    mul-one (num y * den x) ∙ ap (λ (z : ℕ). z * den x) (sym (mul-one (num y)) ∙ cross y false c 1 w) ∙ mul-assoc c (den y) (den x) ∙ ap (λ (z : ℕ). c * z) (mul-comm (den y) (den x)) in
+    add-is binary64 x (neg y) (has-finite x false n 1 v) (neg-finite y F)
+    ∙ rw (neg-num y, neg-den y, neg-sign y F, has-sign x false n 1 v, has-sign y false c 1 w)
+    (sum-same binary64 false true n c 1 (num x * den y) (num y * den x) (den x * den y) (zero-lt-suc 0) (mul-pos (den-pos x) (den-pos y)) A B ∙ whole-difference n c)
+
+-- ---- `ln`, by its tests
+abbrev lnBy : Float → Bool → Bool → Bool → Float
+lnBy x z n b = cond z (inf true) (cond n nan (cond b (series (mantissa x ⊖ one) (exponent x) (exponent x ⊗ L)) x))
+
+ln-by : (x : Float) (z i l b : Bool) → eq x nought ≡ z → isNan x ≡ i → lt x nought ≡ l → finite x ≡ b → ln x ≡ lnBy x z (i || l) b
+unfolding ln
+ln-by x z i l b e f g h =
+    ap (λ (y : Bool). lnBy x y (isNan x || lt x nought) (finite x)) e ∙ ap (λ (y : Bool). lnBy x z (y || lt x nought) (finite x)) f ∙ ap (λ (y : Bool). lnBy x z (i || y) (finite x)) g ∙ ap (lnBy x z (i || l)) h
+
+zero-by-zero : nought ⊘ nought ≡ nan
+unfolding ofBits div
+zero-by-zero = refl
+
+pub ln-zero : (x : Float) → eq x nought ≡ true → bits 0xfff0000000000000 ≡ ln x
+unfolding ofBits
+ln-zero x e = sym (ln-by x true (isNan x) (lt x nought) (finite x) e refl refl refl)
+
+pub ln-below : (x : Float) → eq x nought ≡ false → lt x nought ≡ true → nought ⊘ nought ≡ ln x
+ln-below x e l = zero-by-zero ∙ sym (ln-by x false (isNan x) true (finite x) e refl l refl ∙ go (isNan x))
+  where
+    go : (i : Bool) → lnBy x false (i || true) (finite x) ≡ nan
+    go true = refl
+    go false = refl
+
+-- not zero, not below it, and below the infinity
+pub above : (x : Float) → eq x nought ≡ false → lt x nought ≡ false → lt x (bits 0x7ff0000000000000) ≡ true → T (positive x)
+unfolding ofBits eq lt
+above nan e l h = absurd (false≢true h)
+above (inf true) e l h = absurd (true≢false l)
+above (inf false) e l h = absurd (false≢true h)
+above (fin true m e) z l h = absurd (true≢false (sym (equal (m * up e * 1) (0 * down e) (ltb-false 0 (m * up e * 1 + 0 * down e) l)) ∙ z))
+  where
+    equal : (a b : ℕ) → a + b ≤ 0 → (eqb a b && (false || eqb a 0)) ≡ true
+    equal a b h =
+        let A : a ≡ 0 = omega arith in
+        let B : b ≡ 0 = omega arith in
+        rw (A, B)
+above (fin false zero e) z l h = absurd (true≢false (sym (rw (zero-mul (up e), zero-mul (down e))) ∙ z))
+above (fin false (suc m) e) z l h = lt→ltb 0 (suc m) (zero-lt-suc m)
+
+pub ln-parts : (x m k r : Float) → eq x nought ≡ false → lt x nought ≡ false → T (positive x) → (m ≡ mantissa x) × (k ≡ exponent x) → r ≡ series (m ⊖ one) k (k ⊗ L) → r ≡ ln x
+ln-parts x m k r z l p e h =
+    h
+    ∙ ap (λ (y : Float). series (y ⊖ one) k (k ⊗ L)) (e .0)
+    ∙ ap (λ (y : Float). series (mantissa x ⊖ one) y (y ⊗ L)) (e .1)
+    ∙ sym (ln-by x false false false true z (finite-no-nan x (positive-finite x p)) l (is-true (finite x) (positive-finite x p)))
+
+pub ln-itself : (x : Float) → eq x nought ≡ false → lt x nought ≡ false → lt x (bits 0x7ff0000000000000) ≡ false → x ≡ ln x
+unfolding ofBits lt isNan
+ln-itself nan e l h = sym (ln-by nan false true false false e refl refl refl)
+ln-itself (inf true) e l h = absurd (true≢false h)
+ln-itself (inf false) e l h = sym (ln-by (inf false) false false false false e refl refl refl)
+ln-itself (fin s m e) z l h = absurd (true≢false h)
+
+-- ---- `ln1p`, by its tests: -0.25 to 1.5, and 0.40625
+abbrev least : Float
+least = bits 0xbfd0000000000000
+
+abbrev most : Float
+most = bits 0x3ff8000000000000
+
+abbrev cut : Float
+cut = bits 0x3fda000000000000
+
+abbrev ln1pBy : Float → Bool → Bool → Bool → Float
+ln1pBy u i j l =
+    cond (i && j)
+    (cond l (series u nought (nought ⊗ L ⊕ nought)) (series (mantissa (one ⊕ u) ⊖ one) (exponent (one ⊕ u)) (exponent (one ⊕ u) ⊗ L ⊕ (u ⊖ (one ⊕ u ⊖ one)) ⊘ (one ⊕ u))))
+    nan
+
+ln1p-by : (u : Float) (i j l : Bool) → le least u ≡ i → le u most ≡ j → lt u cut ≡ l → ln1p u ≡ ln1pBy u i j l
+unfolding ln1p
+ln1p-by u i j l e f g = ap (λ (y : Bool). ln1pBy u y (le u most) (lt u cut)) e ∙ ap (λ (y : Bool). ln1pBy u i y (lt u cut)) f ∙ ap (ln1pBy u i j) g
+
+zero-product : nought ≡ nought ⊗ L ⊕ nought
+unfolding ofBits mul add
+zero-product = refl
+
+pub ln1p-low : (u : Float) → le least u ≡ true → le u most ≡ true → lt u cut ≡ true → series u nought nought ≡ ln1p u
+ln1p-low u a b c = ap (series u nought) zero-product ∙ sym (ln1p-by u true true true a b c)
+
+pub ln1p-high : (u m k r : Float) → le least u ≡ true → le u most ≡ true → lt u cut ≡ false → (m ≡ mantissa (one ⊕ u)) × (k ≡ exponent (one ⊕ u))
+    → r ≡ series (m ⊖ one) k (k ⊗ L ⊕ (u ⊖ (one ⊕ u ⊖ one)) ⊘ (one ⊕ u)) → r ≡ ln1p u
+ln1p-high u m k r a b l e h =
+    let c = (u ⊖ (one ⊕ u ⊖ one)) ⊘ (one ⊕ u) in
+    h
+    ∙ ap (λ (y : Float). series (y ⊖ one) k (k ⊗ L ⊕ c)) (e .0)
+    ∙ ap (λ (y : Float). series (mantissa (one ⊕ u) ⊖ one) y (y ⊗ L ⊕ c)) (e .1)
+    ∙ sym (ln1p-by u true true false a b l)
+
+pub ln1p-over : (u : Float) → le least u ≡ true → le u most ≡ false → nought ⊘ nought ≡ ln1p u
+ln1p-over u a b = zero-by-zero ∙ sym (ln1p-by u true false (lt u cut) a b refl)
+
+pub ln1p-under : (u : Float) → le least u ≡ false → nought ⊘ nought ≡ ln1p u
+ln1p-under u a = zero-by-zero ∙ sym (ln1p-by u false (le u most) (lt u cut) a refl refl)
+
+-- from 0.40625, which is 13 / 2 ^ 5, to 1.5, which is 3 / 2, u is above zero, and 1 + u lies from 1 to 5 / 2
+in-range : (u : Float) → le u most ≡ true → lt u cut ≡ false → T (positive u)
+unfolding ofBits lt le
+in-range nan b l = absurd (false≢true b)
+in-range (inf true) b l = absurd (true≢false l)
+in-range (inf false) b l = absurd (false≢true b)
+in-range (fin true m e) b l = absurd (true≢false (sym (lt-ltb 0 (m * up e * 32 + 13 * down e) (omega (arith, down-pos e))) ∙ l))
+in-range (fin false m e) b l = lt→ltb 0 m (first-pos m (up e) (first-pos (m * up e) 32 (omega (arith, down-pos e, ltb-false (m * up e * 32) (13 * down e) l))))
+
+sum-is : (u : Float) → T (positive u) → one ⊕ u ≡ round binary64 false (den u + num u) (den u)
+unfolding ofBits add sum
+sum-is nan p = absurd p
+sum-is (inf s) p = absurd p
+sum-is (fin true m e) p = absurd p
+sum-is (fin false m e) p = rw (one-mul (down e), mul-one (m * up e))
+
+pub sum-positive : (u : Float) → le u most ≡ true → lt u cut ≡ false → T (positive (one ⊕ u))
+unfolding ofBits round
+sum-positive u b l =
+    let p = in-range u b l in
+    let n = num u in
+    let d = den u in
+    let h : n * 2 ≤ 3 * d = le→cross u most p tt (subst T (sym b) tt) in
+    subst (λ (y : Float). T (positive y)) (sym (sum-is u p))
+    (between (round binary64 false 1 1) (round binary64 false (d + n) d) (round binary64 false 5 2) tt tt
+    (round-mono binary64 1 1 (d + n) d (zero-lt-suc 0) (den-pos u) (omega arith))
+    (round-mono binary64 (d + n) d 5 2 (den-pos u) (zero-lt-suc 1) (omega arith)))

@@ -1,0 +1,247 @@
+-- Numbers in two halves: hi * K + lo, with lo below K. K is a variable here and 2 ^ 64 where a law is cited, since `omega` stops at numbers of 39 digits.
+-- Assumes nothing.
+use mathlib.Core.Path.{_≡_, refl, sym, ap, _∙_, subst}
+use mathlib.Core.Logic.{_⊎_, inl, inr}
+use Prim.Native.Nat.{ℕ, suc, _+_, _-_, _*_, _/_, _%_, _^_, _≤_, _<_}
+use native.Mathlib.Nat.{le-trans, le-add-right, lt-of-lt-of-le, eq-zero-or-pos, le-of-eq, div-mul-le-self, le-of-lt, lt-of-le-of-lt, mod-lt, mod-eq-of-lt, mod-eq-sub-mod, add-mul, mul-add, one-mul, mul-one, mul-comm, mul-assoc, mul-left-comm, mul-right-comm, mul-le-mul-right, mul-le-mul-left, mul-pos, lt-of-mul-lt-mul-right, div-add-mod', div-div-eq-div-mul, div-lt-iff-lt-mul, mul-div-cancel, mul-mod-left}
+use native.Mathlib.Numerals.{add-one}
+use native.Mathlib.Omega.{arith}
+use lib.Dec.{ltb}
+use lib.Arith.{digits-lt, digits-div, mod-mul}
+use lib.Pow.{pow-add, pow-pos, pow-mono, shr-lt, split}
+use lib.Bits.{bitAnd, and-mask, mask-lt}
+use lib.Count.{leadingZeros, leading-of-zero, leading-top}
+use lib.Ieee.{size}
+use lib.Ieee.Nearest.{div-same}
+use Rattle.arithmetic.specs.Words.{jammed}
+use Rattle.arithmetic.specs.Laws.Numbers.{same-ltb, lt-or-le, pow-split, mul-lt-pow, size-is}
+
+-- (n + 1) * K
+next : (n K : ℕ) → (n + 1) * K ≡ n * K + K
+next n K = let a = add-mul n 1 K in let b = one-mul K in omega arith
+
+-- ---- sums and differences on one half
+-- x wraps once
+wrapped : (K x : ℕ) → K ≤ x → x < K + K → x % K + K ≡ x
+wrapped K x a b =
+    let e : x % K ≡ x - K = mod-eq-sub-mod a ∙ mod-eq-of-lt (omega arith) in
+    omega arith
+
+-- r + b wraps where it comes out below b
+back-plain : (K r a b : ℕ) → r < K → b < K → (r + b) % K ≡ a → b ≤ a → r + b ≡ a
+back-plain K r a b R B e h = go (lt-or-le (r + b) K)
+  where
+    go : (r + b < K) ⊎ (K ≤ r + b) → r + b ≡ a
+    go (inl l) = sym (mod-eq-of-lt l) ∙ e
+    go (inr l) = let w = wrapped K (r + b) l (omega arith) in omega arith
+
+back-borrow : (K r a b : ℕ) → r < K → b < K → (r + b) % K ≡ a → a < b → r + b ≡ a + K
+back-borrow K r a b R B e h = go (lt-or-le (r + b) K)
+  where
+    go : (r + b < K) ⊎ (K ≤ r + b) → r + b ≡ a + K
+    go (inl l) = let w = mod-eq-of-lt l in omega arith
+    go (inr l) = let w = wrapped K (r + b) l (omega arith) in omega arith
+
+-- ---- sums
+module _ (K ah al bh bl : ℕ) (A : al < K) (B : bl < K) (h : ah * K + al + (bh * K + bl) < K * K) where
+  upper : (n : ℕ) → n * K ≤ ah * K + al + (bh * K + bl) → n < K
+  upper n l = lt-of-mul-lt-mul-right K (lt-of-le-of-lt l h)
+
+  pub add-carry : (lo hi : ℕ) → lo ≡ (al + bl) % K → hi ≡ (ah + bh) % K → lo < al → (hi + 1) % K * K + lo ≡ ah * K + al + (bh * K + bl)
+  add-carry lo hi L H less =
+      let c : bl + al ≡ lo + K = back-borrow K bl lo al B A (ap (λ (x : ℕ). x % K) (omega arith) ∙ sym L) less in
+      let p = add-mul ah bh K in
+      let n = next (ah + bh) K in
+      let z : hi ≡ ah + bh = H ∙ mod-eq-of-lt (upper (ah + bh) (omega arith)) in
+      ap (λ (x : ℕ). (x + 1) % K * K + lo) z ∙ ap (λ (x : ℕ). x * K + lo) (mod-eq-of-lt (upper (ah + bh + 1) (omega arith))) ∙ omega arith
+
+  pub add-plain : (lo hi : ℕ) → lo ≡ (al + bl) % K → hi ≡ (ah + bh) % K → al ≤ lo → hi * K + lo ≡ ah * K + al + (bh * K + bl)
+  add-plain lo hi L H more =
+      let c : bl + al ≡ lo = back-plain K bl lo al B A (ap (λ (x : ℕ). x % K) (omega arith) ∙ sym L) more in
+      let p = add-mul ah bh K in
+      ap (λ (x : ℕ). x * K + lo) (H ∙ mod-eq-of-lt (upper (ah + bh) (omega arith))) ∙ omega arith
+
+-- ---- differences
+module _ (K ah al bh bl : ℕ) (AH : ah < K) (A : al < K) (BH : bh < K) (B : bl < K) (h : bh * K + bl ≤ ah * K + al) where
+  sub-upper : bl ≤ al → bh ≤ ah
+  sub-upper l = go (lt-or-le ah bh)
+    where
+      go : (ah < bh) ⊎ (bh ≤ ah) → bh ≤ ah
+      go (inl p) = let m : ah + 1 ≤ bh = omega arith in let q = mul-le-mul-right K m in let n = next ah K in omega arith
+      go (inr p) = p
+
+  sub-upper-borrow : al < bl → bh < ah
+  sub-upper-borrow l = go (lt-or-le bh ah)
+    where
+      go : (bh < ah) ⊎ (ah ≤ bh) → bh < ah
+      go (inl p) = p
+      go (inr p) = let q = mul-le-mul-right K p in omega arith
+
+  pub sub-plain : (lo hi : ℕ) → lo < K → hi < K → (lo + bl) % K ≡ al → (hi + bh) % K ≡ ah → bl ≤ al → hi * K + lo ≡ ah * K + al - (bh * K + bl)
+  sub-plain lo hi L H p q l =
+      let x = back-plain K lo al bl L B p l in
+      let y = add-mul hi bh K in
+      let z = ap (λ (x : ℕ). x * K) (back-plain K hi ah bh H BH q (sub-upper l)) in
+      omega arith
+
+  pub sub-borrow : (lo hi top : ℕ) → lo < K → hi < K → top < K → (lo + bl) % K ≡ al → (hi + bh) % K ≡ ah → (top + 1) % K ≡ hi → al < bl → top * K + lo ≡ ah * K + al - (bh * K + bl)
+  sub-borrow lo hi top L H U p q r l =
+      let g = sub-upper-borrow l in
+      let e : hi + bh ≡ ah = back-plain K hi ah bh H BH q (le-of-lt g) in
+      let f : top + 1 ≡ hi = back-plain K top hi 1 U (omega arith) r (omega arith) in
+      let x = back-borrow K lo al bl L B p l in
+      let y = add-mul hi bh K in
+      let z = ap (λ (x : ℕ). x * K) e in
+      let u = next top K in
+      let w = ap (λ (x : ℕ). x * K) f in
+      omega arith
+
+-- ---- order
+pub upper-less : (K ah al bh bl : ℕ) → al < K → ah < bh → ah * K + al < bh * K + bl
+upper-less K ah al bh bl A h = let m : ah + 1 ≤ bh = omega arith in let q = mul-le-mul-right K m in let n = next ah K in omega arith
+
+-- with equal upper halves the lower ones decide
+pub lower-less : (K h g a b : ℕ) → h ≡ g → ltb a b ≡ ltb (h * K + a) (g * K + b)
+lower-less K h g a b e = let z = ap (λ (x : ℕ). x * K) e in same-ltb a b (h * K + a) (g * K + b) (λ l. omega arith) (λ l. omega arith)
+
+-- ---- products
+-- x * E cut to a multiple of K = E * F, with what was cut
+cut-shift : (K E F x : ℕ) → 0 < E → 0 < F → E * F ≡ K → x / F * K + x * E % K ≡ x * E
+cut-shift K E F x P Q k =
+    ap (λ (y : ℕ). y * K + x * E % K) (div-same x F (x * E) K Q (subst (λ (y : ℕ). 0 < y) k (mul-pos P Q)) (ap (λ (y : ℕ). x * y) (sym k) ∙ sym (mul-assoc x E F)))
+    ∙ div-add-mod' (x * E) K
+
+pub product-halves : (W u1 u0 v1 v0 : ℕ) → 0 < W →
+    (u1 * v1 + (u1 * v0 + u0 * v1) / W) * (W * W) + (u1 * v0 + u0 * v1) * W % (W * W) + (0 * (W * W) + u0 * v0) ≡ (u1 * W + u0) * (v1 * W + v0)
+product-halves W u1 u0 v1 v0 p =
+    let m = u1 * v0 + u0 * v1 in
+    let a = add-mul (u1 * v1) (m / W) (W * W) in
+    let b = cut-shift (W * W) W W m p p refl in
+    let c : u1 * v1 * (W * W) + m * W + u0 * v0 ≡ (u1 * W + u0) * (v1 * W + v0) = simp (add-mul, mul-add, mul-assoc, mul-comm, mul-left-comm) (omega arith) in
+    omega arith
+
+-- ---- shifts, by E with E * F = K
+module _ (K E F ah al : ℕ) (P : 0 < E) (Q : 0 < F) (k : E * F ≡ K) (A : al < K) where
+  module _ (h : (ah * K + al) * E < K * K) where
+    up-total : (ah * E + al / F) * K + al * E % K ≡ (ah * K + al) * E
+    up-total =
+        let a = add-mul (ah * E) (al / F) K in
+        let b = cut-shift K E F al P Q k in
+        let c = add-mul (ah * K) al E in
+        let d = mul-right-comm ah E K in
+        omega arith
+
+    up-room : ah * E + al / F < K
+    up-room = let e = up-total in lt-of-mul-lt-mul-right K (lt-of-le-of-lt (omega arith) h)
+
+    up-plain : ah * E % K ≡ ah * E
+    up-plain = let e = up-room in mod-eq-of-lt (omega arith)
+
+    pub up-fits : ah * E % K + al / F < K
+    up-fits = rw up-plain up-room
+
+    pub up-is : (ah * E % K + al / F) * K + al * E % K ≡ (ah * K + al) * E
+    up-is = rw up-plain up-total
+
+  down-mid : ah * F % K ≡ ah % E * F
+  down-mid =
+      ap (λ (y : ℕ). ah * F % y) (sym k) ∙ mod-mul (ah * F) P Q
+      ∙ ap (λ (y : ℕ). y % E * F + ah * F % F) (mul-div-cancel ah Q)
+      ∙ ap (λ (y : ℕ). ah % E * F + y) (mul-mod-left ah F)
+      ∙ omega arith
+
+  pub down-fits : ah * F % K + al / E < K
+  down-fits = rw down-mid (subst (λ (x : ℕ). ah % E * F + al / E < x) k (digits-lt (mod-lt ah P) (div-lt-iff-lt-mul P .1 (subst (λ (x : ℕ). al < x) (sym k ∙ mul-comm E F) A))))
+
+  pub down-is : ah / E * K + (ah * F % K + al / E) ≡ (ah * K + al) / E
+  down-is =
+      let x = cut-shift K F E ah Q P (mul-comm F E ∙ k) in
+      let a = add-mul (ah * F) (al / E) E in
+      let b = div-add-mod' al E in
+      let c : ah * F * E ≡ ah * K = mul-assoc ah F E ∙ ap (λ (y : ℕ). ah * y) (mul-comm F E ∙ k) in
+      let s : ah / E * K + (ah * F % K + al / E) ≡ ah * F + al / E = omega arith in
+      let t : (ah * F + al / E) * E + al % E ≡ ah * K + al = omega arith in
+      s ∙ sym (digits-div (ah * F + al / E) {r = al % E} (mod-lt al P)) ∙ ap (λ (y : ℕ). y / E) t
+
+pub pow-rest : (d : ℕ) → d ≤ 64 → 2 ^ d * 2 ^ (64 - d) ≡ 2 ^ 64
+pow-rest d h = pow-split d (64 - d) 64 (omega arith)
+
+-- by K and more
+pub pow-over : (d : ℕ) → 64 ≤ d → 2 ^ 64 * 2 ^ (d - 64) ≡ 2 ^ d
+pow-over d h = pow-split 64 (d - 64) d (omega arith)
+
+module _ (K E ah al : ℕ) (P : 0 < K) (A : al < K) where
+  pub down-far : ah / E ≡ (ah * K + al) / (K * E)
+  down-far = ap (λ (y : ℕ). y / E) (sym (digits-div ah A)) ∙ div-div-eq-div-mul (ah * K + al) K E
+
+  module _ (Q : 0 < E) (h : (ah * K + al) * (K * E) < K * K) where
+    up-small : (ah * K + al) * E < K
+    up-small = lt-of-mul-lt-mul-right K (lt-of-le-of-lt (le-of-eq (mul-right-comm (ah * K + al) E K ∙ mul-assoc (ah * K + al) K E)) h)
+
+    whole : ah * K + al ≡ al
+    whole = go (lt-or-le 0 ah)
+      where
+        go : (0 < ah) ⊎ (ah ≤ 0) → ah * K + al ≡ al
+        go (inl a) = let b = mul-le-mul-right K a in let c = one-mul K in let d = mul-one (ah * K + al) in let e = mul-le-mul-left (ah * K + al) Q in let s = up-small in omega arith
+        go (inr a) = let z : ah ≡ 0 = omega arith in ap (λ (x : ℕ). x * K + al) z ∙ omega arith
+
+    pub up-far : al * E % K * K + 0 ≡ (ah * K + al) * (K * E)
+    up-far =
+        rw (mod-eq-of-lt (subst (λ (x : ℕ). x * E < K) whole up-small), whole)
+        (let e = mul-right-comm al E K ∙ mul-assoc al K E in omega arith)
+
+-- ---- the last bits jammed: q is what is left of n after d + 1 bits
+pub twice-le : (n d : ℕ) → n / 2 ^ (d + 1) * 2 ≤ n
+twice-le n d = le-trans (mul-le-mul-left (n / 2 ^ (d + 1)) (pow-mono {i = 1} {j = d + 1} (omega arith))) (div-mul-le-self n (2 ^ (d + 1)))
+
+-- an even number's lower half is even
+pub jam-room : (h l q : ℕ) → h * 18446744073709551616 + l ≡ q * 2 → l < 18446744073709551616 → l + 1 < 18446744073709551616
+jam-room h l q e b = omega arith
+
+pub jam-some : (n d h l : ℕ) → h * 18446744073709551616 + l ≡ n / 2 ^ (d + 1) * 2 → n / 2 ^ (d + 1) * 2 ^ (d + 1) < n → h * 18446744073709551616 + (l + 1) ≡ jammed n d
+jam-some n d h l e g = let m = div-add-mod' n (2 ^ (d + 1)) in omega arith
+
+pub jam-none : (n d v : ℕ) → v ≡ n / 2 ^ (d + 1) * 2 → n ≤ n / 2 ^ (d + 1) * 2 ^ (d + 1) → v ≡ jammed n d
+jam-none n d v e g = let m = div-add-mod' n (2 ^ (d + 1)) in omega arith
+
+-- ---- how many digits, by the zeros that lead
+size-zero : size 0 ≡ 0
+unfolding size
+size-zero = refl
+
+pub digits-low : (h l : ℕ) → h ≡ 0 → l < 2 ^ 64 → 64 - leadingZeros 64 l ≡ size (h * 2 ^ 64 + l)
+digits-low h l e L = let z : h * 18446744073709551616 + l ≡ l = omega arith in rw z (go (eq-zero-or-pos l))
+  where
+    go : (l ≡ 0) ⊎ (0 < l) → 64 - leadingZeros 64 l ≡ size l
+    go (inl e) = rw (e, leading-of-zero 64) (sym size-zero)
+    go (inr p) =
+        let (j, e, lo, hi) = leading-top 64 l p L in
+        let z : 64 - leadingZeros 64 l ≡ j + 1 = omega arith in
+        z ∙ sym (size-is l j lo (subst (λ (x : ℕ). l < 2 ^ x) (sym (add-one j)) hi))
+
+pub digits-high : (h l : ℕ) → (h ≡ 0 → ⊥) → h < 2 ^ 64 → l < 2 ^ 64 → 128 - leadingZeros 64 h ≡ size (h * 2 ^ 64 + l)
+digits-high h l n H L =
+    let (j, e, lo, hi) = leading-top 64 h (omega arith) H in
+    let z : 128 - leadingZeros 64 h ≡ j + 64 + 1 = omega arith in
+    z ∙ sym (size-is (h * 2 ^ 64 + l) (j + 64)
+    (le-trans (le-of-eq (pow-add 2 j 64)) (le-trans (mul-le-mul-right (2 ^ 64) lo) (le-add-right (h * 2 ^ 64) l)))
+    (lt-of-lt-of-le (digits-lt hi L) (le-of-eq (pow-split (suc j) 64 (j + 64 + 1) (omega arith)))))
+
+-- ---- the product of two numbers of 53 bits, by their halves of 32
+abbrev low : ℕ → ℕ
+low n = bitAnd n 0xffff_ffff
+
+abbrev high : ℕ → ℕ
+high n = n / 2 ^ 32
+
+module _ (u v : ℕ) (U : u < 2 ^ 53) (Q : v < 2 ^ 53) where
+  pub parts-small : (high u * high v < 2 ^ 42) × (high u * low v < 2 ^ 53) × (low u * high v < 2 ^ 53) × (low u * low v < 2 ^ 64)
+  parts-small = (
+    mul-lt-pow 21 21 (shr-lt 21 32 U) (shr-lt 21 32 Q),
+    mul-lt-pow 21 32 (shr-lt 21 32 U) (mask-lt v 32),
+    mul-lt-pow 32 21 (mask-lt u 32) (shr-lt 21 32 Q),
+    mul-lt-pow 32 32 (mask-lt u 32) (mask-lt v 32),
+  )
+
+  pub product-is : (high u * high v + (high u * low v + low u * high v) / 2 ^ 32) * 2 ^ 64 + (high u * low v + low u * high v) * 2 ^ 32 % 2 ^ 64 + (0 * 2 ^ 64 + low u * low v) ≡ u * v
+  product-is = product-halves (2 ^ 32) (high u) (low u) (high v) (low v) (pow-pos 32) ∙ rw (and-mask u 32, and-mask v 32, split u 32, split v 32)

@@ -1,0 +1,164 @@
+-- The whole part of a value by the fields of its bit pattern, and `trunc` by the whole part. Assumes nothing.
+use mathlib.Core.Path.{_≡_, refl, sym, ap, _∙_, subst}
+use mathlib.Core.Logic.{_⊎_, inl, inr}
+use mathlib.Core.Bool.{Bool, true, false, not}
+use Prim.Native.Nat.{ℕ, zero, suc, _+_, _-_, _*_, _/_, _^_, _≤_, _<_, min}
+use native.Mathlib.Nat.{le-add-right, le-trans, le-of-eq, le-of-lt, lt-of-lt-of-le, not-le-of-lt, mul-one, mul-assoc, mul-comm, mul-right-comm, mul-le-mul, mul-lt-mul-of-pos-right, lt-of-mul-lt-mul-right, add-comm, div-eq-of-lt, mul-div-cancel, mul-div-mul-right, le-div-iff-mul-le, div-lt-iff-lt-mul, eq-of-mul-eq-mul-right, min-eq-left, min-eq-right}
+use native.Mathlib.Omega.{arith}
+use lib.IntN.{ℤ}
+use lib.Dec.{T, leb, lit≤, lit<}
+use lib.Pow.{pow-add, pow-pos, pow-mono, shl-lt}
+use lib.Bits.{bitAnd, mask-lt}
+use lib.Ieee.{Float, nan, inf, fin, binary64, up, down, round, fits, isNan, ne, toBits}
+use lib.Ieee.Compare.{differs-from-itself}
+use lib.Ieee.Exact.{HasValue}
+use lib.Ieee.Digits.{back}
+use lib.Ieee.Fits.{down-pos}
+use lib.Ieee.Nearest.{div-same}
+use lib.Ieee.Scale.{finite}
+use Rattle.arithmetic.specs.Basic.{minus?, trunc}
+use Rattle.arithmetic.specs.WholePart.{wholePart}
+use Rattle.arithmetic.specs.Laws.Own.{own, round-self}
+use Rattle.arithmetic.specs.Laws.Numbers.{lt-or-le, pow-split}
+use Rattle.arithmetic.specs.Laws.Signs.{is-nan, sign-bit}
+use Rattle.arithmetic.proofs.Decoding.{at-zero, at-more}
+
+-- ---- NaN
+trunc-nan : trunc nan ≡ nan
+unfolding trunc
+trunc-nan = refl
+
+pub trunc-of-nan : (x : Float) → ne x x ≡ true → x ≡ trunc x
+trunc-of-nan x h = let e = is-nan x h in e ∙ sym (ap trunc e ∙ trunc-nan)
+
+-- ---- the whole part, by the fields
+whole-of : (x : Float) (s : Bool) (a : ℕ) → HasValue x s a (2 ^ 1074) → wholePart x ≡ min (a / 2 ^ 1074) (2 ^ 52)
+whole-of nan s a h = absurd h
+whole-of (inf t) s a h = absurd h
+whole-of (fin t m e) s a h = ap (λ (z : ℕ). min z (2 ^ 52)) (div-same (m * up e) (down e) a (2 ^ 1074) (down-pos e) (pow-pos 1074) (h .1))
+
+-- the field and the digits
+abbrev field : Float → ℕ
+field x = bitAnd (toBits binary64 x / 2 ^ 52) 0x7ff
+
+abbrev digits : Float → ℕ
+digits x = bitAnd (toBits binary64 x) 0xf_ffff_ffff_ffff
+
+abbrev negative : Float → Bool
+negative x = leb (2 ^ 63) (toBits binary64 x)
+
+field-of-infinity : (s : Bool) → field (inf s) ≡ 2047
+unfolding toBits
+field-of-infinity true = refl
+field-of-infinity false = refl
+
+digits-lt : (t : ℕ) → t < 4503599627370496 → 4503599627370496 + t < 9007199254740992
+digits-lt t h = omega arith
+
+-- q * 2 ^ j of the smallest values, cut at the unit
+cut-low : (q j : ℕ) → q < 2 ^ 53 → j < 1011 → min (q * 2 ^ j / 2 ^ 1074) (2 ^ 52) ≡ 0
+cut-low q j h b = let room : 53 + j ≤ 1074 = omega (arith, b) in ap (λ (z : ℕ). min z (2 ^ 52)) (div-eq-of-lt (lt-of-lt-of-le (shl-lt 53 j h) (pow-mono room)))
+
+cut-at : (q j p : ℕ) → q < 2 ^ 53 → j + p ≡ 1074 → 0 < p → q / 2 ^ p ≡ min (q * 2 ^ j / 2 ^ 1074) (2 ^ 52)
+cut-at q j p h e P =
+    let room : 53 ≤ 52 + p = omega (arith, P) in
+    sym (min-eq-left (le-of-lt (div-lt-iff-lt-mul (pow-pos p) .1 (lt-of-lt-of-le h (le-trans (pow-mono room) (le-of-eq (pow-add 2 52 p)))))))
+    ∙ ap (λ (z : ℕ). min z (2 ^ 52)) (sym (mul-div-mul-right q (2 ^ p) (pow-pos j)) ∙ ap (λ (z : ℕ). q * 2 ^ j / z) (mul-comm (2 ^ p) (2 ^ j) ∙ pow-split j p 1074 e))
+
+cut-high : (q j : ℕ) → 2 ^ 52 ≤ q → 1074 ≤ j → 2 ^ 52 ≡ min (q * 2 ^ j / 2 ^ 1074) (2 ^ 52)
+cut-high q j h b = sym (min-eq-right (le-div-iff-mul-le (pow-pos 1074) .1 (mul-le-mul h (pow-mono b))))
+
+by-field : (x : Float) → T (fits binary64 x) → T (not (isNan x)) → (n f : ℕ) → field x ≡ f
+    → (f ≡ 2047 → n ≡ 2 ^ 52)
+    → (f ≡ 0 → n ≡ min (digits x * 2 ^ 0 / 2 ^ 1074) (2 ^ 52))
+    → ((j : ℕ) → f ≡ suc j → n ≡ min ((2 ^ 52 + digits x) * 2 ^ j / 2 ^ 1074) (2 ^ 52))
+    → n ≡ wholePart x
+unfolding isNan
+by-field nan F N n f e a b d = absurd N
+by-field (inf s) F N n f e a b d = a (sym e ∙ field-of-infinity s)
+by-field (fin s m g) F N n zero e a b d = b refl ∙ sym (whole-of (fin s m g) (negative (fin s m g)) (digits (fin s m g) * 2 ^ 0) (at-zero (fin s m g) F tt e))
+by-field (fin s m g) F N n (suc j) e a b d = d j refl ∙ sym (whole-of (fin s m g) (negative (fin s m g)) ((2 ^ 52 + digits (fin s m g)) * 2 ^ j) (at-more (fin s m g) F tt j e))
+
+module _ (x : Float) (F : T (fits binary64 x)) (N : T (not (isNan x))) where
+  few : digits x < 2 ^ 52
+  few = mask-lt (toBits binary64 x) 52
+
+  pub below-the-unit : field x < 1012 → 0 ≡ wholePart x
+  below-the-unit h =
+      by-field x F N 0 (field x) refl (λ e. absurd (omega (arith, h, e))) (λ e. sym (cut-low (digits x) 0 (lt-of-lt-of-le few (lit≤ tt)) (lit< tt)))
+      (λ j e. sym (cut-low (2 ^ 52 + digits x) j (digits-lt (digits x) few) (omega (arith, h, e))))
+
+  pub at-the-unit : 1012 ≤ field x → field x < 1075 → (digits x + 2 ^ 52) / 2 ^ (1075 - field x) ≡ wholePart x
+  at-the-unit g h =
+      ap (λ (z : ℕ). z / 2 ^ (1075 - field x)) (add-comm (digits x) (2 ^ 52))
+      ∙ by-field x F N ((2 ^ 52 + digits x) / 2 ^ (1075 - field x)) (field x) refl (λ e. absurd (omega (arith, h, e))) (λ e. absurd (omega (arith, g, e)))
+      (λ j e. cut-at (2 ^ 52 + digits x) j (1075 - field x) (digits-lt (digits x) few) (omega (arith, h, e)) (omega (arith, h)))
+
+  pub above-the-unit : 1075 ≤ field x → 2 ^ 52 ≡ wholePart x
+  above-the-unit h =
+      by-field x F N (2 ^ 52) (field x) refl (λ e. refl) (λ e. absurd (omega (arith, h, e)))
+      (λ j e. cut-high (2 ^ 52 + digits x) j (le-add-right (2 ^ 52) (digits x)) (omega (arith, h, e)))
+
+-- ---- `trunc`
+trunc-fin : (s : Bool) (m : ℕ) (e : ℤ) → trunc (fin s m e) ≡ round binary64 s (m * up e / down e) 1
+unfolding trunc
+trunc-fin s m e = refl
+
+trunc-inf : (s : Bool) → trunc (inf s) ≡ inf s
+unfolding trunc
+trunc-inf s = refl
+
+pub trunc-small : (x : Float) (n : ℕ) → T (fits binary64 x) → T (not (isNan x)) → n ≡ wholePart x → n < 2 ^ 52 → round binary64 (negative x) n 1 ≡ trunc x
+unfolding isNan
+trunc-small nan n F N e h = absurd N
+trunc-small (inf s) n F N e h = absurd (omega (arith, e, h))
+trunc-small (fin s m d) n F N e h =
+    ap (λ (t : Bool). round binary64 t n 1) (sym (sign-bit (fin s m d) F refl))
+    ∙ ap (λ (z : ℕ). round binary64 s z 1) (e ∙ min-left (m * up d / down d) (subst (λ (z : ℕ). z < 2 ^ 52) e h))
+    ∙ sym (trunc-fin s m d)
+  where
+    min-left : (a : ℕ) → min a 4503599627370496 < 4503599627370496 → min a 4503599627370496 ≡ a
+    min-left a h = omega arith
+
+-- from 2 ^ 52 on every value is whole
+whole-large : (n l q j : ℕ) → 0 < l → n * 2 ^ 1074 ≡ q * 2 ^ j * l → q < 2 ^ 53 → 2 ^ 52 ≤ n / l → 1074 ≤ j
+whole-large n l q j L e h b = go (lt-or-le j 1074)
+  where
+    room : (j : ℕ) → j < 1074 → 53 + j ≤ 1126
+    room j g = omega arith
+
+    small : j < 1074 → n < 2 ^ 52 * l
+    small g =
+        lt-of-mul-lt-mul-right (2 ^ 1074)
+        (subst (λ (z : ℕ). z < 2 ^ 52 * l * 2 ^ 1074) (sym e)
+        (lt-of-lt-of-le (mul-lt-mul-of-pos-right (lt-of-lt-of-le (shl-lt 53 j h) (pow-mono (room j g))) L) (le-of-eq (mul-right-comm (2 ^ 52) (2 ^ 1074) l))))
+
+    go : (j < 1074) ⊎ (1074 ≤ j) → 1074 ≤ j
+    go (inl g) = absurd (not-le-of-lt (div-lt-iff-lt-mul L .1 (small g)) b)
+    go (inr g) = g
+
+whole-value : (n l q j : ℕ) → 0 < l → n * 2 ^ 1074 ≡ q * 2 ^ j * l → 1074 ≤ j → n ≡ q * 2 ^ (j - 1074) * l
+whole-value n l q j L e b =
+    eq-of-mul-eq-mul-right (2 ^ 1074) (pow-pos 1074) n (q * 2 ^ (j - 1074) * l)
+    (e
+    ∙ ap (λ (z : ℕ). q * z * l) (sym (pow-split (j - 1074) 1074 j (back j 1074 b)))
+    ∙ ap (λ (z : ℕ). z * l) (sym (mul-assoc q (2 ^ (j - 1074)) (2 ^ 1074)))
+    ∙ mul-right-comm (q * 2 ^ (j - 1074)) (2 ^ 1074) l)
+
+pub trunc-large : (x : Float) → T (fits binary64 x) → T (not (isNan x)) → 2 ^ 52 ≤ wholePart x → x ≡ trunc x
+unfolding isNan
+trunc-large nan F N h = absurd N
+trunc-large (inf s) F N h = sym (trunc-inf s)
+trunc-large (fin s m d) F N h =
+    let n = m * up d in
+    let l = down d in
+    let L : 0 < l = down-pos d in
+    let o = own binary64 (fin s m d) F tt in
+    let w = o .digits * 2 ^ (o .place - 1074) in
+    let n-is : n ≡ w * l = whole-value n l (o .digits) (o .place) L (o .exact) (whole-large n l (o .digits) (o .place) L (o .exact) (o .few) (reach (n / l) h)) in
+    sym (round-self binary64 (fin s m d) s w 1 (pow-pos 0) F (refl, mul-one n ∙ n-is))
+    ∙ ap (λ (z : ℕ). round binary64 s z 1) (sym (ap (λ (z : ℕ). z / l) n-is ∙ mul-div-cancel w L))
+    ∙ sym (trunc-fin s m d)
+  where
+    reach : (a : ℕ) → 4503599627370496 ≤ min a 4503599627370496 → 4503599627370496 ≤ a
+    reach a h = omega arith

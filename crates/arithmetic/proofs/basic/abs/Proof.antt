@@ -1,0 +1,26 @@
+-- `arithmetic::basic::abs` meets its contract. Assumes nothing.
+use mathlib.Core.Path.{sym, subst}
+use lib.Dec.{T}
+use lib.Ieee.{binary64, fits}
+use Rattle.arithmetic.specs.Laws.Compare.{is-no-nan}
+use Rattle.arithmetic.specs.Laws.Signs.{is-nan, has-bits, abs-nan, abs-bits, abs-no-nan}
+use Rattle.arithmetic.proofs.basic.abs.Statement.{statement}
+use Rattle.arithmetic.proofs.basic.abs.Tie as tie
+
+held : (c : tie.Start) → T (fits binary64 (c .args .x))
+held c = subst T (sym (c .good .0 .1)) tt
+
+returns : tie.Need-returns
+returns c = abs-nan (c .before .args .x) (is-nan (c .before .args .x) (c .if1 .taken))
+
+float-to-bits-result : tie.Need-float-to-bits-result
+float-to-bits-result c = has-bits (c .before .args .x) (c .if1 .left)
+
+float-from-bits-result : tie.Need-float-from-bits-result
+float-from-bits-result c = abs-no-nan (c .before .args .x) (held (c .before)) (is-no-nan (c .before .args .x) (c .if1 .left))
+
+returns-2 : tie.Need-returns-2
+returns-2 c = abs-bits (c .before .args .x) (held (c .before))
+
+pub abs-spec : {M : Type 1} → statement M
+abs-spec = tie.close (tie.spec returns float-to-bits-result float-from-bits-result returns-2)

@@ -1,0 +1,35 @@
+-- `arithmetic::basic::signum` meets its contract. Assumes nothing.
+use mathlib.Core.Path.{_≡_, sym, ap, _∙_, subst}
+use mathlib.Core.Bool.{Bool, false, cond}
+use lib.Dec.{T}
+use lib.Ieee.{binary64, fits, isNan, neg}
+use Rattle.arithmetic.specs.Operations.{one}
+use Rattle.arithmetic.specs.Basic.{minus?, signum}
+use Rattle.arithmetic.specs.Laws.Compare.{is-no-nan}
+use Rattle.arithmetic.specs.Laws.Signs.{is-nan, has-bits, signum-nan, signum-is, sign-clear, sign-set}
+use Rattle.arithmetic.proofs.basic.signum.Statement.{statement}
+use Rattle.arithmetic.proofs.basic.signum.Tie as tie
+
+held : (c : tie.Start) → T (fits binary64 (c .args .x))
+held c = subst T (sym (c .good .0 .1)) tt
+
+no-nan : (c : tie.Else1) → isNan (c .before .args .x) ≡ false
+no-nan c = is-no-nan (c .before .args .x) (c .if1 .left)
+
+signed : (c : tie.Else1) → signum (c .before .args .x) ≡ cond (minus? (c .before .args .x)) (neg one) one
+signed c = signum-is (c .before .args .x) (no-nan c)
+
+returns : tie.Need-returns
+returns c = signum-nan (c .before .args .x) (is-nan (c .before .args .x) (c .if1 .taken))
+
+float-to-bits-if2 : tie.Need-float-to-bits-if2
+float-to-bits-if2 c = has-bits (c .before .args .x) (c .if1 .left)
+
+returns-2 : tie.Need-returns-2
+returns-2 c = sym (signed (c .before) ∙ ap (λ (b : Bool). cond b (neg one) one) (sign-clear (c .before .before .args .x) (held (c .before .before)) (no-nan (c .before)) (c .if2 .taken)))
+
+returns-3 : tie.Need-returns-3
+returns-3 c = sym (signed (c .before) ∙ ap (λ (b : Bool). cond b (neg one) one) (sign-set (c .before .before .args .x) (held (c .before .before)) (no-nan (c .before)) (c .if2 .left)))
+
+pub signum-spec : {M : Type 1} → statement M
+signum-spec = tie.close (tie.spec returns float-to-bits-if2 returns-2 returns-3)

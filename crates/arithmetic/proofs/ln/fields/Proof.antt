@@ -1,0 +1,39 @@
+-- `arithmetic::ln::fields` meets its contract. Assumes nothing.
+use mathlib.Core.Path.{_≡_, refl, ap, _∙_}
+use Prim.Native.Nat.{_-_, _/_}
+use lib.Dec.{lit≤}
+use lib.IntN.{pos}
+use lib.Ieee.{binary64, sub, ofInt, ofBits}
+use Rattle.arithmetic.specs.Laws.Logarithm.{low-no-nan}
+use Rattle.arithmetic.proofs.LnPaths.{sub-whole}
+use native.Mathlib.Omega.{arith}
+use borrow.Author.Needs.{needs}
+use Rattle.arithmetic.proofs.ln.fields.Statement.{statement}
+use Rattle.arithmetic.proofs.ln.fields.Tie as tie
+
+sub-t : tie.Need-sub-t
+sub-t c = search needs
+
+add-t4 : tie.Need-add-t4
+add-t4 c = search needs
+
+float-from-bits-t5 : tie.Need-float-from-bits-t5
+float-from-bits-t5 c = low-no-nan _ (omega arith)
+
+cast-t7 : tie.Need-cast-t7
+cast-t7 c = search needs
+
+int-to-float-t8 : tie.Need-int-to-float-t8
+int-to-float-t8 c = search needs
+
+literal : ofBits binary64 4652438317399277568 ≡ ofInt binary64 (pos 1074)
+unfolding ofBits ofInt
+literal = refl
+
+returns : tie.Need-returns
+returns c =
+    let n = (c .before .args .b - 0x6a09e00000000) / 4503599627370496 in
+    (refl, ap (sub binary64 (ofInt binary64 (pos n))) literal ∙ sub-whole n 1074 (omega arith) (lit≤ tt))
+
+pub fields-spec : {M : Type 1} → statement M
+fields-spec = tie.close (tie.spec sub-t add-t4 float-from-bits-t5 cast-t7 int-to-float-t8 returns)

@@ -1,0 +1,58 @@
+-- The methods of `f64` that the source calls, but for `sqrt`, `mul_add`, `exp`, `ln` and `ln_1p`, which have files of their own; and `mul_add2_sel`. Definitions only.
+use Prim.Native.Nat.{_*_, _/_}
+use mathlib.Core.Bool.{Bool, true, false, not, _||_, cond}
+use lib.Ieee.{Float, nan, inf, fin, binary64, up, down, round, neg, isNan, lt}
+use lib.Ieee.Scale.{finite}
+use Rattle.arithmetic.specs.Operations.{_⊕_, _⊗_, _⊘_, one}
+
+-- the sign: true for what is written with a minus, -0 among them
+abbrev pub minus? : Float → Bool
+minus? nan = false
+minus? (inf s) = s
+minus? (fin s m e) = s
+
+-- the same magnitude with the sign clear
+unfoldable pub abs : Float → Float
+abs nan = nan
+abs (inf s) = inf false
+abs (fin s m e) = fin false m e
+
+-- 1 with the sign of x, and of NaN NaN
+unfoldable pub signum : Float → Float
+signum nan = nan
+signum (inf s) = cond s (neg one) one
+signum (fin s m e) = cond s (neg one) one
+
+-- the whole part, toward zero, with the sign of x
+unfoldable pub trunc : Float → Float
+unfolding round
+trunc nan = nan
+trunc (inf s) = inf s
+trunc (fin s m e) = round binary64 s (m * up e / down e) 1
+
+-- whether `max` takes x rather than y: the larger, and of two that are equal, which may be zeros, x where its sign is clear
+abbrev pub takes : Bool → Bool → Bool → Bool
+takes l g s = cond l false (cond g true (not s))
+
+abbrev pub over : Float → Float → Bool
+over x y = takes (lt x y) (lt y x) (minus? x)
+
+-- the larger and the smaller of two; a NaN is dropped; of two zeros `max` is +0 if either is, and `min` -0 if either is
+unfoldable pub max : Float → Float → Float
+max x y = cond (isNan x) y (cond (isNan y) x (cond (over x y) x y))
+
+unfoldable pub min : Float → Float → Float
+min x y = cond (isNan x) y (cond (isNan y) x (cond (over x y) y x))
+
+abbrev pub recip : Float → Float
+recip x = one ⊘ x
+
+abbrev pub isFinite : Float → Bool
+isFinite x = finite x
+
+abbrev pub isInfinite : Float → Bool
+isInfinite x = not (finite x || isNan x)
+
+-- `mul_add2_sel`, without the source's feature `fma`: the product is rounded, then the sum
+abbrev pub mulAdd2Sel : Float → Float → Float → Float
+mulAdd2Sel x a b = x ⊗ a ⊕ b

@@ -1,0 +1,23 @@
+-- Facts about the definitions that the layers above cite.
+pub mod Numbers
+pub mod Ratio
+pub mod Times
+pub mod Patterns
+pub mod Rounding
+pub mod Own
+pub mod Compare
+pub mod Sums
+pub mod Products
+pub mod Extremes
+pub mod Halves
+pub mod WholeRoots
+pub mod SqrtValues
+pub mod SqrtScaling
+pub mod SqrtNearest
+pub mod SqrtBounds
+pub mod Identities
+pub mod Fits
+pub mod Signs
+pub mod Bounds
+pub mod PowersOfTwo
+pub mod Logarithm

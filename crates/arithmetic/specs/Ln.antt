@@ -1,0 +1,81 @@
+-- The natural logarithms `ln` and `ln_1p` of document 01, in its names and its order of operations. Definitions only.
+use Prim.Native.Nat.{ℕ, _-_, _*_, _/_, _^_}
+use mathlib.Core.Bool.{false, true, _&&_, _||_, cond}
+use lib.Dec.{ltb}
+use lib.Ieee.{Float, nan, inf, binary64, low, minus, size, round, add, sub, mul, div, ofInt, isNan, lt, eq, le, ofBits}
+use lib.Ieee.Scale.{finite}
+use lib.Ieee.Positive.{num, den}
+use Rattle.arithmetic.specs.Exp.{ln2High as H, ln2Low as L}
+use Rattle.arithmetic.specs.Operations.{_⊕_, _⊖_, _⊗_, _⊘_, bits, nought, half, one, two}
+
+-- 01's G1 to G7
+abbrev pub G1 : Float
+G1 = bits 0x3FE5_5555_5555_5593
+
+abbrev pub G2 : Float
+G2 = bits 0x3FD9_9999_9997_FA04
+
+abbrev pub G3 : Float
+G3 = bits 0x3FD2_4924_9422_9359
+
+abbrev pub G4 : Float
+G4 = bits 0x3FCC_71C5_1D8E_78AF
+
+abbrev pub G5 : Float
+G5 = bits 0x3FC7_4664_96CB_03DE
+
+abbrev pub G6 : Float
+G6 = bits 0x3FC3_9A09_D078_C69F
+
+abbrev pub G7 : Float
+G7 = bits 0x3FC2_F112_DF3E_5244
+
+-- a finite x above zero is this number of units of 2 ^ -1074
+abbrev pub inUnits : Float → ℕ
+inUnits x = num x * 2 ^ low binary64 / den x
+
+-- the p for which a / 2 ^ p lies from 3FE6A09E00000000, which is 741455 / 2 ^ 20, to below its double 3FF6A09E00000000: since a / 2 ^ size a lies from
+-- 1 / 2 to below 1, it is size a, or one less where that fraction is below
+unfoldable pub place : ℕ → ℕ
+unfolding size
+place a = cond (ltb (a * 2 ^ 20) (741455 * 2 ^ size a)) (size a - 1) (size a)
+
+-- m and k: for a and p as above x is a / 2 ^ 1074 = a / 2 ^ p * 2 ^ (p - 1074)
+unfoldable pub mantissa : Float → Float
+unfolding place round
+mantissa x = round binary64 false (inUnits x) (2 ^ place (inUnits x))
+
+unfoldable pub exponent : Float → Float
+unfolding place ofInt
+exponent x = ofInt binary64 (minus (place (inUnits x)) (low binary64))
+
+-- the result by f, k and kl, which is k L in `ln` and k L + c in `ln_1p`
+unfoldable pub series : Float → Float → Float → Float
+unfolding ofBits add sub mul div
+series f k kl =
+    let s = f ⊘ (two ⊕ f) in
+    let z = s ⊗ s in
+    let w = z ⊗ z in
+    let g = half ⊗ f ⊗ f in
+    let R = z ⊗ (G1 ⊕ w ⊗ (G3 ⊕ w ⊗ (G5 ⊕ w ⊗ G7))) ⊕ w ⊗ (G2 ⊕ w ⊗ (G4 ⊕ w ⊗ G6)) in
+    s ⊗ (g ⊕ R) ⊕ kl ⊖ g ⊕ f ⊕ k ⊗ H
+
+-- zeros give -infinity, NaN and what is below 0 NaN, infinity itself
+unfoldable pub ln : Float → Float
+unfolding series mantissa exponent isNan lt eq
+ln x =
+    let k = exponent x in
+    let f = mantissa x ⊖ one in
+    cond (eq x nought) (inf true) (cond (isNan x || lt x nought) nan (cond (finite x) (series f k (k ⊗ L)) x))
+
+-- the logarithm of 1 + u, for a u from -0.25 to 1.5; 3FDA000000000000 is 0.40625
+unfoldable pub ln1p : Float → Float
+unfolding series mantissa exponent lt le
+ln1p u =
+    let v = one ⊕ u in
+    let k = exponent v in
+    let f = mantissa v ⊖ one in
+    let c = (u ⊖ (v ⊖ one)) ⊘ v in
+    cond (le (bits 0xBFD0_0000_0000_0000) u && le u (bits 0x3FF8_0000_0000_0000))
+    (cond (lt u (bits 0x3FDA_0000_0000_0000)) (series u nought (nought ⊗ L ⊕ nought)) (series f k (k ⊗ L ⊕ c)))
+    nan

@@ -1,0 +1,11 @@
+-- Numbers of 128 bits in two halves.
+use Prim.Native.Nat.{ℕ, _+_, _*_, _/_, _%_, _^_, min}
+use Rattle.arithmetic.specs.declared.pair.Pair.{Pair}
+
+-- the number that a pair holds
+abbrev pub val : Pair → ℕ
+val p = p .hi * 2 ^ 64 + p .lo
+
+-- n / 2 ^ d cut to a whole number, whose last bit is 1 too where anything but 0 was cut
+abbrev pub jammed : ℕ → ℕ → ℕ
+jammed n d = n / 2 ^ (d + 1) * 2 + min 1 (n % 2 ^ (d + 1))

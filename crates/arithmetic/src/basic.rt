@@ -1,0 +1,134 @@
+// The methods of f64 that the source calls and that no operator gives.
+ghost use mathlib.Core.Path.{_≡_};
+ghost use mathlib.Core.Bool.{not};
+ghost use Prim.Native.Nat.{_^_, _≤_};
+ghost use lib.Dec.{T};
+ghost use lib.Ieee.{binary64, isNan, round};
+ghost use Rattle.arithmetic.specs.Basic.{abs, signum, trunc, over, max, min, recip, isFinite, isInfinite};
+ghost use Rattle.arithmetic.specs.WholePart.{wholePart};
+
+pub fn abs(x: f64) -> f64
+    ensures { λ r. ⌜ r ≡ abs x ⌝ }
+{
+    if x != x {
+        return x;
+    }
+    f64::from_bits(f64::to_bits(x) % 0x8000_0000_0000_0000)
+}
+
+pub fn signum(x: f64) -> f64
+    ensures { λ r. ⌜ r ≡ signum x ⌝ }
+{
+    if x != x {
+        return x;
+    }
+    if f64::to_bits(x) < 0x8000_0000_0000_0000 {
+        1.0
+    } else {
+        -1.0
+    }
+}
+
+// The whole part of |x|, and 2^52 from there on: the pattern's last 1075 - field digits are below
+// the unit, all of them for an exponent's field below 1023.
+pub(crate) fn whole_part(x: f64) -> u64
+    requires { ⌜ T (not (isNan x)) ⌝ }
+    ensures { λ r. ⌜ r ≡ wholePart x ⌝ }
+{
+    let bits = f64::to_bits(x);
+    let field = (bits >> 52) & 0x7ff;
+    if field < 1012 {
+        0
+    } else if field < 1075 {
+        ((bits & 0xf_ffff_ffff_ffff) + 0x10_0000_0000_0000) >> (1075 - field)
+    } else {
+        0x10_0000_0000_0000
+    }
+}
+
+// n with a sign, which a zero keeps.
+pub(crate) fn signed(negative: bool, n: u64) -> f64
+    requires { ⌜ n ≤ 2 ^ 53 ⌝ }
+    ensures { λ r. ⌜ r ≡ round binary64 negative n 1 ⌝ }
+{
+    if negative { -(n as f64) } else { n as f64 }
+}
+
+// The whole part, toward zero, with the sign of x.
+pub fn trunc(x: f64) -> f64
+    ensures { λ r. ⌜ r ≡ trunc x ⌝ }
+{
+    if x != x {
+        return x;
+    }
+    let n = whole_part(x);
+    if n < 0x10_0000_0000_0000 {
+        signed(0x8000_0000_0000_0000 <= f64::to_bits(x), n)
+    } else {
+        x
+    }
+}
+
+// Whether `max` takes x: the larger, and of two that are equal x where its sign is clear.
+fn takes_first(x: f64, y: f64) -> bool
+    requires { ⌜ T (not (isNan x)) ⌝ }
+    ensures { λ r. ⌜ r ≡ over x y ⌝ }
+{
+    if x < y {
+        return false;
+    }
+    if y < x {
+        return true;
+    }
+    f64::to_bits(x) < 0x8000_0000_0000_0000
+}
+
+pub fn max(x: f64, y: f64) -> f64
+    ensures { λ r. ⌜ r ≡ max x y ⌝ }
+{
+    if x != x {
+        return y;
+    }
+    if y != y {
+        return x;
+    }
+    if takes_first(x, y) { x } else { y }
+}
+
+pub fn min(x: f64, y: f64) -> f64
+    ensures { λ r. ⌜ r ≡ min x y ⌝ }
+{
+    if x != x {
+        return y;
+    }
+    if y != y {
+        return x;
+    }
+    if takes_first(x, y) { y } else { x }
+}
+
+pub fn recip(x: f64) -> f64
+    ensures { λ r. ⌜ r ≡ recip x ⌝ }
+{
+    1.0 / x
+}
+
+pub fn is_finite(x: f64) -> bool
+    ensures { λ r. ⌜ r ≡ isFinite x ⌝ }
+{
+    if x < f64::from_bits(0x7ff0_0000_0000_0000) {
+        f64::from_bits(0xfff0_0000_0000_0000) < x
+    } else {
+        false
+    }
+}
+
+pub fn is_infinite(x: f64) -> bool
+    ensures { λ r. ⌜ r ≡ isInfinite x ⌝ }
+{
+    if x == f64::from_bits(0x7ff0_0000_0000_0000) {
+        true
+    } else {
+        x == f64::from_bits(0xfff0_0000_0000_0000)
+    }
+}

@@ -1,0 +1,102 @@
+// e^x, by fdlibm's coefficients: x = k ln 2 + r, and e^x = 2^k e^r.
+ghost use mathlib.Core.Path.{_≡_};
+ghost use mathlib.Core.Bool.{false, cond};
+ghost use Prim.Native.Nat.{_+_, _-_, _^_, _<_};
+ghost use lib.Ieee.{minus};
+ghost use lib.Ieee.Exact.{HasValue};
+ghost use Rattle.arithmetic.specs.Exp.{beyond, reduced, scaled, exp};
+use super::basic::signed;
+use super::basic::whole_part;
+
+// The sum of the two is ln 2: a k of 11 bits times LN2_HIGH is exact.
+pub(crate) const LN2_HIGH: f64 = 0.6931471803691238;
+
+pub(crate) const LN2_LOW: f64 = 0.00000000019082149292705877;
+
+const PER_LN2: f64 = 1.4426950408889634;
+
+// Above the first the result is infinite, and below the second it is 0.
+const HIGHEST: f64 = 709.782712893384;
+
+const LOWEST: f64 = -745.1332191019411;
+
+// x / ln 2, and a half away from zero.
+fn beyond(negative: bool, x: f64) -> f64
+    ensures { λ r. ⌜ r ≡ beyond negative x ⌝ }
+{
+    let w = x * PER_LN2;
+    if negative { w - 0.5 } else { w + 0.5 }
+}
+
+// e^(x - k ln 2).
+fn reduced(x: f64, k: f64) -> f64
+    ensures { λ r. ⌜ r ≡ reduced x k ⌝ }
+{
+    let h = x - k * LN2_HIGH;
+    let l = k * LN2_LOW;
+    let r = h - l;
+    let q = r * r;
+    let c = r
+        - q
+            * (0.16666666666666602
+                + q
+                    * (-0.0027777777777015593
+                        + q
+                            * (0.00006613756321437934
+                                + q
+                                    * (-0.0000016533902205465252
+                                        + q * 0.000000041381367970572385))));
+    1.0 - ((l - (r * c) / (2.0 - c)) - h)
+}
+
+// 2^(e - 1075), which is subnormal for an e below 53.
+fn power(e: u64) -> f64
+    requires { ⌜ 0 < e ⌝ ∗ ⌜ e < 2099 ⌝ }
+    ensures { λ r. ⌜ HasValue r false (2 ^ e) (2 ^ 1075) ⌝ }
+{
+    if e < 53 {
+        f64::from_bits(1 << (e - 1))
+    } else {
+        f64::from_bits((e - 52) * 4503599627370496)
+    }
+}
+
+// y * 2^(e - 1075), rounded once. At the first and the last e the power is no f64. There the first
+// of two products is exact, or infinite as the result is, or too small to count.
+fn scale(y: f64, e: u64) -> f64
+    requires { ⌜ e < 2100 ⌝ }
+    ensures { λ r. ⌜ r ≡ scaled y (minus e 1075) ⌝ }
+{
+    if e == 0 {
+        return y * 0.5 * power(1);
+    }
+    if e == 2099 {
+        return y * 2.0 * power(2098);
+    }
+    y * power(e)
+}
+
+// 1075 + k, for a k of magnitude n.
+fn exponent(negative: bool, n: u64) -> u64
+    requires { ⌜ n < 1076 ⌝ }
+    ensures { λ r. ⌜ r ≡ cond negative (1075 - n) (1075 + n) ⌝ }
+{
+    if negative { 1075 - n } else { 1075 + n }
+}
+
+pub fn exp(x: f64) -> f64
+    ensures { λ r. ⌜ r ≡ exp x ⌝ }
+{
+    if x != x {
+        return x;
+    }
+    if x > HIGHEST {
+        return f64::from_bits(0x7FF0_0000_0000_0000);
+    }
+    if x < LOWEST {
+        return 0.0;
+    }
+    let negative = 0x8000_0000_0000_0000 <= f64::to_bits(x);
+    let n = whole_part(beyond(negative, x));
+    scale(reduced(x, signed(negative, n)), exponent(negative, n))
+}

@@ -1,0 +1,103 @@
+// The natural logarithm of x, and of 1 + u for a u near 0, with fdlibm's coefficients.
+ghost use mathlib.Core.Path.{_≡_};
+ghost use Prim.Native.Nat.{_+_, _-_, _/_, _%_, _≤_};
+ghost use lib.Dec.{T};
+ghost use lib.Ieee.{binary64, minus, ofInt};
+ghost use lib.Ieee.Positive.{positive};
+ghost use Rattle.arithmetic.specs.Operations.{bits};
+ghost use Rattle.arithmetic.specs.Ln.{mantissa, exponent, series, ln, ln1p};
+use super::exp::LN2_HIGH;
+use super::exp::LN2_LOW;
+
+const G1: f64 = 6.666666666666735130e-01;
+
+const G2: f64 = 3.999999999940941908e-01;
+
+const G3: f64 = 2.857142874366239149e-01;
+
+const G4: f64 = 2.222219843214978396e-01;
+
+const G5: f64 = 1.818357216161805012e-01;
+
+const G6: f64 = 1.531383769920937332e-01;
+
+const G7: f64 = 1.479819860511658591e-01;
+
+// The number m * 2^k, for a whole k.
+pub struct Scaled {
+    pub m: f64,
+    pub k: f64,
+}
+
+// m and k by the bits b of m * 2^k, whose exponent's field is counted from 52 on. That field has a new
+// value from each power of two on, and k from 3FE6A09E00000000 times it, so b is moved down first.
+fn fields(b: u64) -> Scaled
+    requires { ⌜ 4503599627370496 ≤ b ⌝ }
+    ensures { λ r. ⌜ (r .m ≡ bits ((b - 0x6a09e00000000) % 4503599627370496 + 0x3fe6a09e00000000)) × (r .k ≡ ofInt binary64 (minus ((b - 0x6a09e00000000) / 4503599627370496) 1074)) ⌝ }
+{
+    let t = b - 0x0006_a09e_0000_0000;
+    Scaled {
+        m: f64::from_bits(t % 4503599627370496 + 0x3fe6_a09e_0000_0000),
+        k: ((t / 4503599627370496) as u32) as f64 - 1074.0,
+    }
+}
+
+// x as m * 2^k. A subnormal x is multiplied by 2^52, and the field of the product counts from 52 on.
+fn split(x: f64) -> Scaled
+    requires { ⌜ T (positive x) ⌝ }
+    ensures { λ r. ⌜ (r .m ≡ mantissa x) × (r .k ≡ exponent x) ⌝ }
+{
+    let b = f64::to_bits(x);
+    if b < 4503599627370496 {
+        return fields(f64::to_bits(x * 4503599627370496.0));
+    }
+    fields(b + 0x0340_0000_0000_0000)
+}
+
+// The sum that both logarithms end with.
+fn series(f: f64, k: f64, kl: f64) -> f64
+    ensures { λ r. ⌜ r ≡ series f k kl ⌝ }
+{
+    let s = f / (2.0 + f);
+    let z = s * s;
+    let w = z * z;
+    let g = (0.5 * f) * f;
+    let r = z * (G1 + w * (G3 + w * (G5 + w * G7))) + w * (G2 + w * (G4 + w * G6));
+    s * (g + r) + kl - g + f + k * LN2_HIGH
+}
+
+// The natural logarithm.
+pub fn ln(x: f64) -> f64
+    ensures { λ r. ⌜ r ≡ ln x ⌝ }
+{
+    if x == 0.0 {
+        return f64::from_bits(0xfff0_0000_0000_0000);
+    }
+    if x < 0.0 {
+        return 0.0 / 0.0;
+    }
+    if x < f64::from_bits(0x7ff0_0000_0000_0000) {
+        let p = split(x);
+        return series(p.m - 1.0, p.k, p.k * LN2_LOW);
+    }
+    // the infinity, or NaN
+    x
+}
+
+// The natural logarithm of 1 + u, for a u from -0.25 to 1.5.
+pub fn ln_1p(u: f64) -> f64
+    ensures { λ r. ⌜ r ≡ ln1p u ⌝ }
+{
+    if -0.25 <= u {
+        if u <= 1.5 {
+            if u < 0.40625 {
+                return series(u, 0.0, 0.0);
+            }
+            let v = 1.0 + u;
+            let p = split(v);
+            return series(p.m - 1.0, p.k, p.k * LN2_LOW + (u - (v - 1.0)) / v);
+        }
+        return 0.0 / 0.0;
+    }
+    0.0 / 0.0
+}

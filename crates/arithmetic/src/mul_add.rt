@@ -1,0 +1,248 @@
+// x * a + b, rounded once.
+ghost use mathlib.Core.Path.{_≡_};
+ghost use mathlib.Core.Bool.{_&&_, cond};
+ghost use Prim.Native.Nat.{_+_, _-_, _*_, _^_, _≤_, _<_};
+ghost use lib.Dec.{T};
+ghost use lib.Ieee as Ieee;
+ghost use lib.Ieee.{binary64};
+ghost use lib.Ieee.Scale.{finite};
+ghost use lib.Ieee.Nearest.{closest};
+ghost use Rattle.arithmetic.specs.Words.{val};
+ghost use Rattle.arithmetic.specs.Steps.{Decoded, Exponent, Operands, Aligned, Shortened};
+ghost use Rattle.arithmetic.specs.MulAdd.{mulAdd};
+use super::basic::is_finite;
+use super::pair;
+use super::pair::Pair;
+
+// The sign, and the magnitude m * 2^j in units of 2^-1074.
+pub struct Parts {
+    pub negative: bool,
+    pub m: u64,
+    pub j: u64,
+}
+
+// Two terms on one scale: a * 2^e and b * 2^e in units of 2^-2148.
+pub struct Terms {
+    pub a: Pair,
+    pub b: Pair,
+    pub e: u64,
+}
+
+// m / 4 * 2^k, for an m of at most 55 digits.
+pub struct Short {
+    pub m: u64,
+    pub k: u64,
+}
+
+// The parts of a finite x.
+fn decode(x: f64) -> Parts
+    requires { ⌜ T (finite x) ⌝ }
+    ensures { λ r. ⌜ Decoded x r ⌝ }
+{
+    let bits = f64::to_bits(x);
+    let negative = 0x8000_0000_0000_0000 <= bits;
+    let field = (bits >> 52) & 0x7ff;
+    let digits = bits & 0xf_ffff_ffff_ffff;
+    if field == 0 {
+        Parts {
+            negative,
+            m: digits,
+            j: 0,
+        }
+    } else {
+        Parts {
+            negative,
+            m: digits + 0x10_0000_0000_0000,
+            j: field - 1,
+        }
+    }
+}
+
+// p * 2^ep and m * 2^em on one scale. Of the term that reaches lower, what is below the scale is
+// jammed into its last bit, which lies far below the last bit of the rounded sum.
+fn align(p: Pair, ep: u64, m: u64, em: u64) -> Terms
+    requires { ⌜ Operands (val p) ep m em ⌝ }
+    ensures { λ r. ⌜ Aligned (val p) ep m em r ⌝ }
+{
+    let b = Pair { hi: 0, lo: m };
+    if ep <= em {
+        let d = em - ep;
+        if d <= 64 {
+            Terms {
+                a: p,
+                b: pair::up(b, d),
+                e: ep,
+            }
+        } else {
+            Terms {
+                a: pair::jam(p, d - 64),
+                b: Pair { hi: m, lo: 0 },
+                e: em - 64,
+            }
+        }
+    } else {
+        let d = ep - em;
+        if d <= 20 {
+            Terms {
+                a: pair::up(p, d),
+                b,
+                e: em,
+            }
+        } else {
+            Terms {
+                a: pair::up(p, 20),
+                b: pair::jam(b, d - 20),
+                e: ep - 20,
+            }
+        }
+    }
+}
+
+// v * 2^e, in units of 2^-2148, cut down to the digits that a result keeps and two more, the last
+// of them jammed.
+fn shorten(v: Pair, e: u64) -> Short
+    requires { ⌜ e < 4096 ⌝ }
+    ensures { λ r. ⌜ Shortened (val v * 2 ^ e) r ⌝ }
+{
+    let n = pair::digits(v);
+    if n == 0 {
+        return Short { m: 0, k: 0 };
+    }
+    if n + e < 1127 {
+        cut(v, n, e, 1074)
+    } else {
+        cut(v, n, e, n + e - 53)
+    }
+}
+
+// The same, for a v of n digits, above the place `at`.
+fn cut(v: Pair, n: u64, e: u64, at: u64) -> Short
+    requires { ⌜ n ≡ Ieee.size (val v) ⌝ ∗ ⌜ 0 < n ⌝ ∗ ⌜ e < 4096 ⌝ ∗ ⌜ at ≡ 1074 + (n + e - 1127) ⌝ }
+    ensures { λ r. ⌜ Shortened (val v * 2 ^ e) r ⌝ }
+{
+    if e + 2 <= at {
+        let m = pair::jam(v, at - e - 2);
+        Short {
+            m: m.lo,
+            k: at - 1074,
+        }
+    } else {
+        let m = pair::up(v, e + 2 - at);
+        Short {
+            m: m.lo,
+            k: at - 1074,
+        }
+    }
+}
+
+// m / 4 to the nearest whole number, a tie to the even one.
+fn quarter(m: u64) -> u64
+    requires { ⌜ m < 2 ^ 55 ⌝ }
+    ensures { λ r. ⌜ r ≡ closest m 4 ⌝ }
+{
+    let q = m >> 2;
+    let r = m & 3;
+    if r < 2 {
+        q
+    } else if r == 2 {
+        q + (q & 1)
+    } else {
+        q + 1
+    }
+}
+
+// The value with a sign and the rest of the bits.
+fn signed(negative: bool, magnitude: u64) -> f64
+    requires { ⌜ magnitude ≤ 2047 * 2 ^ 52 ⌝ }
+    ensures { λ r. ⌜ r ≡ Ieee.ofBits binary64 (cond negative (2 ^ 63) 0 + magnitude) ⌝ }
+{
+    if negative {
+        f64::from_bits(0x8000_0000_0000_0000 + magnitude)
+    } else {
+        f64::from_bits(magnitude)
+    }
+}
+
+// m / 4 * 2^k units of 2^-1074, rounded to a whole number times 2^k.
+fn pack(negative: bool, m: u64, k: u64) -> f64
+    requires { ⌜ m < 2 ^ 55 ⌝ ∗ ⌜ k < 3200 ⌝ ∗ ⌜ (0 < k → 2 ^ 54 ≤ m) ⌝ }
+    ensures { λ r. ⌜ r ≡ Ieee.units binary64 negative (closest m 4) k ⌝ }
+{
+    let magnitude = (k << 52) + quarter(m);
+    if magnitude < 0x7ff0_0000_0000_0000 {
+        signed(negative, magnitude)
+    } else {
+        signed(negative, 0x7ff0_0000_0000_0000)
+    }
+}
+
+// v * 2^e, in units of 2^-2148, rounded.
+fn rounded(negative: bool, v: Pair, e: u64) -> f64
+    requires { ⌜ e < 4096 ⌝ }
+    ensures { λ r. ⌜ r ≡ Ieee.round binary64 negative (val v * 2 ^ e) (2 ^ 2148) ⌝ }
+{
+    let n = shorten(v, e);
+    pack(negative, n.m, n.k)
+}
+
+// Whether both are true.
+fn both(s: bool, t: bool) -> bool
+    ensures { λ r. ⌜ r ≡ (s && t) ⌝ }
+{
+    if s { t } else { false }
+}
+
+// The sum of two terms with their signs, rounded.
+fn total(s: bool, t: bool, w: Terms) -> f64
+    requires { ⌜ val (w .a) < 2 ^ 127 ⌝ ∗ ⌜ val (w .b) < 2 ^ 127 ⌝ ∗ ⌜ w .e < 4096 ⌝ }
+    ensures { λ r. ⌜ r ≡ Ieee.sum binary64 s (val (w .a) * 2 ^ w .e) t (val (w .b) * 2 ^ w .e) (2 ^ 2148) ⌝ }
+{
+    let a = w.a;
+    let b = w.b;
+    let e = w.e;
+    if s == t {
+        rounded(s, pair::add(a, b), e)
+    } else if pair::less(a, b) {
+        rounded(t, pair::sub(b, a), e)
+    } else {
+        rounded(both(s, pair::less(b, a)), pair::sub(a, b), e)
+    }
+}
+
+// The product's exponent: 0 for a product that is 0.
+fn exponent(u: Parts, v: Parts) -> u64
+    requires { ⌜ u .j < 2046 ⌝ ∗ ⌜ v .j < 2046 ⌝ ∗ ⌜ (0 < u .j → 2 ^ 52 ≤ u .m) ⌝ ∗ ⌜ (0 < v .j → 2 ^ 52 ≤ v .m) ⌝ }
+    ensures { λ r. ⌜ Exponent u v r ⌝ }
+{
+    if u.m == 0 {
+        0
+    } else if v.m == 0 {
+        0
+    } else {
+        u.j + v.j
+    }
+}
+
+// x * a + b, rounded once.
+pub fn mul_add(x: f64, a: f64, b: f64) -> f64
+    ensures { λ r. ⌜ r ≡ mulAdd x a b ⌝ }
+{
+    if is_finite(x) {
+        if is_finite(a) {
+            if is_finite(b) {
+                let u = decode(x);
+                let v = decode(a);
+                let w = decode(b);
+                let p = pair::product(u.m, v.m);
+                let terms = align(p, exponent(u, v), w.m, w.j + 1074);
+                total(u.negative != v.negative, w.negative, terms)
+            } else {
+                b
+            }
+        } else {
+            x * a + b
+        }
+    } else {
+        x * a + b
+    }
+}

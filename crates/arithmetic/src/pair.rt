@@ -1,0 +1,158 @@
+// Whole numbers of 128 bits in two halves of 64: sums and differences wrap on each half, and the
+// carry and the borrow are found by comparison.
+ghost use mathlib.Core.Path.{_≡_};
+ghost use Prim.Native.Nat.{_+_, _-_, _*_, _/_, _^_, _≤_, _<_};
+ghost use lib.Dec.{ltb};
+ghost use lib.Ieee as Ieee;
+ghost use Rattle.arithmetic.specs.Words.{val, jammed};
+
+// The number hi * 2^64 + lo.
+pub struct Pair {
+    pub hi: u64,
+    pub lo: u64,
+}
+
+// a + b, which fits.
+pub(crate) fn add(a: Pair, b: Pair) -> Pair
+    requires { ⌜ val a + val b < 2 ^ 128 ⌝ }
+    ensures { λ r. ⌜ val r ≡ val a + val b ⌝ }
+{
+    let lo = std::num::wrapping_add_u64(a.lo, b.lo);
+    let hi = std::num::wrapping_add_u64(a.hi, b.hi);
+    if lo < a.lo {
+        Pair {
+            hi: std::num::wrapping_add_u64(hi, 1),
+            lo,
+        }
+    } else {
+        Pair { hi, lo }
+    }
+}
+
+// a - b, for b at most a.
+pub(crate) fn sub(a: Pair, b: Pair) -> Pair
+    requires { ⌜ val b ≤ val a ⌝ }
+    ensures { λ r. ⌜ val r ≡ val a - val b ⌝ }
+{
+    let lo = std::num::wrapping_sub_u64(a.lo, b.lo);
+    let hi = std::num::wrapping_sub_u64(a.hi, b.hi);
+    if a.lo < b.lo {
+        Pair {
+            hi: std::num::wrapping_sub_u64(hi, 1),
+            lo,
+        }
+    } else {
+        Pair { hi, lo }
+    }
+}
+
+// Whether a is below b.
+pub(crate) fn less(a: Pair, b: Pair) -> bool
+    ensures { λ r. ⌜ r ≡ ltb (val a) (val b) ⌝ }
+{
+    if a.hi < b.hi {
+        true
+    } else if b.hi < a.hi {
+        false
+    } else {
+        a.lo < b.lo
+    }
+}
+
+// The product of two numbers of 53 bits.
+pub(crate) fn product(u: u64, v: u64) -> Pair
+    requires { ⌜ u < 2 ^ 53 ⌝ ∗ ⌜ v < 2 ^ 53 ⌝ }
+    ensures { λ r. ⌜ val r ≡ u * v ⌝ }
+{
+    let u1 = u >> 32;
+    let u0 = u & 0xffff_ffff;
+    let v1 = v >> 32;
+    let v0 = v & 0xffff_ffff;
+    let middle = u1 * v0 + u0 * v1;
+    let upper = Pair {
+        hi: u1 * v1 + (middle >> 32),
+        lo: middle << 32,
+    };
+    let lower = Pair { hi: 0, lo: u0 * v0 };
+    add(upper, lower)
+}
+
+// a * 2^d, which fits, for d below 128.
+pub(crate) fn up(a: Pair, d: u64) -> Pair
+    requires { ⌜ d < 128 ⌝ ∗ ⌜ val a * 2 ^ d < 2 ^ 128 ⌝ }
+    ensures { λ r. ⌜ val r ≡ val a * 2 ^ d ⌝ }
+{
+    if d == 0 {
+        a
+    } else if d < 64 {
+        Pair {
+            hi: (a.hi << d) + (a.lo >> (64 - d)),
+            lo: a.lo << d,
+        }
+    } else {
+        Pair {
+            hi: a.lo << (d - 64),
+            lo: 0,
+        }
+    }
+}
+
+// a / 2^d, cut to a whole number.
+pub(crate) fn down(a: Pair, d: u64) -> Pair
+    ensures { λ r. ⌜ val r ≡ val a / 2 ^ d ⌝ }
+{
+    if d == 0 {
+        a
+    } else if d < 64 {
+        Pair {
+            hi: a.hi >> d,
+            lo: (a.hi << (64 - d)) + (a.lo >> d),
+        }
+    } else if d < 128 {
+        Pair {
+            hi: 0,
+            lo: a.hi >> (d - 64),
+        }
+    } else {
+        Pair { hi: 0, lo: 0 }
+    }
+}
+
+// a with its last d bits cleared.
+pub(crate) fn cleared(a: Pair, d: u64) -> Pair
+    ensures { λ r. ⌜ val r ≡ val a / 2 ^ d * 2 ^ d ⌝ }
+{
+    let q = down(a, d);
+    if d < 128 {
+        up(q, d)
+    } else {
+        Pair { hi: 0, lo: 0 }
+    }
+}
+
+// a / 2^d, cut to a whole number, whose last bit is set too where anything but 0 was cut.
+pub(crate) fn jam(a: Pair, d: u64) -> Pair
+    requires { ⌜ d < 8192 ⌝ }
+    ensures { λ r. ⌜ val r ≡ jammed (val a) d ⌝ }
+{
+    let r = up(down(a, d + 1), 1);
+    if less(cleared(a, d + 1), a) {
+        Pair {
+            hi: r.hi,
+            lo: r.lo + 1,
+        }
+    } else {
+        r
+    }
+}
+
+// How many binary digits a has: none for 0.
+pub(crate) fn digits(a: Pair) -> u64
+    ensures { λ r. ⌜ r ≡ Ieee.size (val a) ⌝ }
+{
+    if a.hi == 0 {
+        64 - (u64::leading_zeros(a.lo) as u64)
+    } else {
+        128 - (u64::leading_zeros(a.hi) as u64)
+    }
+}

@@ -1,0 +1,66 @@
+// Runs one function of the layers on given bits. Standard input holds records of 28 bytes: the
+// function's number and three doubles, as XDR writes them. Each record gives a line: the 16 digits
+// of the result's bits, or `nan`. A number that names no function ends the run.
+mod record;
+mod text;
+
+use arithmetic::basic::max;
+use arithmetic::basic::min;
+use arithmetic::basic::signum;
+use arithmetic::basic::trunc;
+use arithmetic::exp::exp;
+use arithmetic::ln::ln;
+use arithmetic::ln::ln_1p;
+use arithmetic::mul_add::mul_add;
+use arithmetic::sqrt::sqrt;
+use record::figure;
+use record::function;
+use text::write_line;
+
+pub enum Outcome {
+    Number(f64),
+    Unknown,
+}
+
+// The functions of layer one.
+fn arithmetic_of(number: u64, a: f64, b: f64, c: f64) -> Outcome {
+    match number {
+        1 => Outcome::Number(sqrt(a)),
+        2 => Outcome::Number(mul_add(a, b, c)),
+        3 => Outcome::Number(exp(a)),
+        4 => Outcome::Number(ln(a)),
+        5 => Outcome::Number(ln_1p(a)),
+        6 => Outcome::Number(trunc(a)),
+        7 => Outcome::Number(signum(a)),
+        8 => Outcome::Number(max(a, b)),
+        9 => Outcome::Number(min(a, b)),
+        _ => Outcome::Unknown,
+    }
+}
+
+// The result of a record's function.
+fn evaluate(input: &[u8; 28]) -> Outcome {
+    let a = figure(input, 4);
+    let b = figure(input, 12);
+    let c = figure(input, 20);
+    arithmetic_of(function(input), a, b, c)
+}
+
+// Reads a record and writes its line; whether to go on.
+fn turn() -> bool {
+    let mut input = [0u8; 28];
+    if io::read_full(libc::STDIN_FILENO, &mut input) < 28 {
+        return false;
+    }
+    match evaluate(&input) {
+        Outcome::Number(value) => write_line(value),
+        Outcome::Unknown => false,
+    }
+}
+
+fn main() {
+    let mut turns = u64::MAX;
+    while turns > 0 && turn() {
+        turns -= 1;
+    }
+}

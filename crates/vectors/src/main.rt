@@ -15,6 +15,13 @@ use arithmetic::mul_add::mul_add;
 use arithmetic::sqrt::sqrt;
 use record::figure;
 use record::function;
+use special_function::error_function::erf_cody;
+use special_function::error_function::erfc_cody;
+use special_function::error_function::erfcx_cody;
+use special_function::error_function::erfinv;
+use special_function::normal_distribution::inverse_norm_cdf;
+use special_function::normal_distribution::norm_cdf;
+use special_function::normal_distribution::norm_pdf;
 use text::write_line;
 
 pub enum Outcome {
@@ -38,12 +45,31 @@ fn arithmetic_of(number: u64, a: f64, b: f64, c: f64) -> Outcome {
     }
 }
 
+// Those of layer two.
+fn special_function_of(number: u64, a: f64) -> Outcome {
+    match number {
+        10 => Outcome::Number(erf_cody(a)),
+        11 => Outcome::Number(erfc_cody(a)),
+        12 => Outcome::Number(erfcx_cody(a)),
+        13 => Outcome::Number(erfinv(a)),
+        14 => Outcome::Number(norm_pdf(a)),
+        15 => Outcome::Number(norm_cdf(a)),
+        16 => Outcome::Number(inverse_norm_cdf(a)),
+        _ => Outcome::Unknown,
+    }
+}
+
 // The result of a record's function.
 fn evaluate(input: &[u8; 28]) -> Outcome {
+    let number = function(input);
     let a = figure(input, 4);
     let b = figure(input, 12);
     let c = figure(input, 20);
-    arithmetic_of(function(input), a, b, c)
+    if number < 10 {
+        arithmetic_of(number, a, b, c)
+    } else {
+        special_function_of(number, a)
+    }
 }
 
 // Reads a record and writes its line; whether to go on.

@@ -1,0 +1,2 @@
+-- What only this crate needs: the end of the asymptotic expansion.
+pub mod Ending

@@ -1,0 +1,38 @@
+-- The tests that led to each return pick the definition's case. Assumes nothing.
+use Rattle.special_function.specs.ErrorFunction.{erfCody}
+use Rattle.special_function.proofs.error_function.erf_cody.Statement.{statement}
+use Rattle.special_function.proofs.error_function.erf_cody.Tie as tie
+
+returns : tie.Need-returns
+unfolding erfCody
+returns c = rw (← c .before .before .abs .ensures, c .before .if1 .taken) cc
+
+returns-2 : tie.Need-returns-2
+unfolding erfCody
+returns-2 c = rw (← c .before .before .before .abs .ensures, c .before .before .if1 .left, c .before .if2 .taken) cc
+
+returns-3 : tie.Need-returns-3
+unfolding erfCody
+returns-3 c =
+    rw (
+      ← c .before .before .before .before .before .before .abs .ensures,
+      c .before .before .before .before .before .if1 .left,
+      c .before .before .before .before .if2 .left,
+      c .before .if3 .taken,
+    ) cc
+
+returns-4 : tie.Need-returns-4
+unfolding erfCody
+returns-4 c =
+    rw (
+      ← c .before .before .before .before .before .before .abs .ensures,
+      c .before .before .before .before .before .if1 .left,
+      c .before .before .before .before .if2 .left,
+      c .before .if3 .left,
+    ) cc
+
+pub erf-cody-spec : {M : Type 1} → statement M
+erf-cody-spec =
+    tie.close
+    (tie.spec (λ c κs. tt) (λ c κs. tt) returns (λ c κs. tt) returns-2 (λ c κs. tt) (λ c κs. tt) (λ c κs. tt)
+    (λ c κs. tt) returns-3 returns-4)

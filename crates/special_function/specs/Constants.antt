@@ -1,0 +1,15 @@
+-- The constants of constants.rs that the kept functions use, by the bits that the source gives, and Rust's FRAC_1_SQRT_2. Definitions only.
+use lib.Ieee.{Float}
+use Rattle.arithmetic.specs.Operations.{bits}
+
+abbrev pub sqrtPiOver2 : Float
+sqrtPiOver2 = bits 0x3FF4_0D93_1FF6_2706
+
+abbrev pub sixteenthRootDblEpsilon : Float
+sixteenthRootDblEpsilon = bits 0x3FBA_E89F_995A_D3AE
+
+abbrev pub frac1Sqrt2Pi : Float
+frac1Sqrt2Pi = bits 0x3FD9_8845_33D4_3650
+
+abbrev pub frac1Sqrt2 : Float
+frac1Sqrt2 = bits 0x3FE6_A09E_667F_3BCD

@@ -1,0 +1,324 @@
+//! Runs our code and the oracle on the same inputs in one process and counts the differences.
+
+mod ours;
+
+use oracle::evaluations::counted;
+use oracle::functions::NAMES;
+use oracle::inputs::{self, Inputs, KINDS, Quotes, Rng};
+use oracle::quote::Outcome;
+use oracle::{DefaultSpecialFn, explicit_black};
+use std::cell::Cell;
+use std::process::exit;
+use std::time::Instant;
+
+/// What either side answers; figures by their bits, every NaN alike.
+#[derive(Clone, Copy, Debug, PartialEq)]
+pub enum Reply {
+    Value(u64),
+    Root { root: u64, count: u64 },
+    NoRoot { count: u64 },
+    Answer { total: u64, volatility: u64, count: u64 },
+    Refusal { number: u32, count: u64 },
+    Spent,
+}
+
+fn bits(x: f64) -> u64 {
+    if x.is_nan() { 0x7FF8_0000_0000_0000 } else { x.to_bits() }
+}
+
+impl Reply {
+    pub fn value(x: f64) -> Reply {
+        Reply::Value(bits(x))
+    }
+    pub fn root(root: f64, count: u64) -> Reply {
+        Reply::Root { root: bits(root), count }
+    }
+    pub fn answer(total: f64, volatility: f64, count: u64) -> Reply {
+        Reply::Answer { total: bits(total), volatility: bits(volatility), count }
+    }
+    /// A line for a reader: bits and, for figures, decimals.
+    fn show(self) -> String {
+        let figure = |b: u64| format!("{b:016x} ({:e})", f64::from_bits(b));
+        match self {
+            Reply::Value(b) => figure(b),
+            Reply::Root { root, count } => format!("root {} count {count}", figure(root)),
+            Reply::NoRoot { count } => format!("none count {count}"),
+            Reply::Answer { total, volatility, count } => {
+                format!("V {} {} count {count}", figure(total), figure(volatility))
+            }
+            Reply::Refusal { number, count } => format!("R {number} count {count}"),
+            Reply::Spent => "spent".to_string(),
+        }
+    }
+}
+
+impl From<Outcome> for Reply {
+    fn from(outcome: Outcome) -> Reply {
+        match outcome {
+            Outcome::Answer { total, volatility, count } => Reply::answer(total, volatility, count),
+            Outcome::Refusal { number, count } => Reply::Refusal { number, count },
+        }
+    }
+}
+
+fn oracle_reply(function: u32, [a, b, c]: [f64; 3]) -> Reply {
+    let search = |result: (Option<f64>, u64)| match result {
+        (Some(root), count) => Reply::root(root, count),
+        (None, count) => Reply::NoRoot { count },
+    };
+    match function {
+        19 => oracle::quote::normalised(a, b).into(),
+        22 => search(counted(|| explicit_black::inverse_gaussian_quantile::<DefaultSpecialFn>(a, b))),
+        23 => search(counted(|| explicit_black::inverse_gaussian_quantile_from_survival::<DefaultSpecialFn>(a, b))),
+        _ => Reply::value(oracle::functions::value(function, a, b, c).unwrap()),
+    }
+}
+
+fn name(function: u32) -> &'static str {
+    match function {
+        22 => "inverse_gaussian_quantile",
+        23 => "inverse_gaussian_quantile_from_survival",
+        _ => NAMES[function as usize],
+    }
+}
+
+thread_local!(static CURRENT: Cell<[u64; 5]> = const { Cell::new([0; 5]) });
+
+/// A panic says on which input it came.
+fn report_panics() {
+    let usual = std::panic::take_hook();
+    std::panic::set_hook(Box::new(move |info| {
+        let input = CURRENT.with(Cell::get);
+        eprintln!("panic on input {}", input.map(|b| format!("{b:016x}")).join(" "));
+        usual(info);
+    }));
+}
+
+struct Tally {
+    what: String,
+    start: Instant,
+    run: u64,
+    differ: u64,
+}
+
+impl Tally {
+    fn new(what: String) -> Tally {
+        Tally { what, start: Instant::now(), run: 0, differ: 0 }
+    }
+    fn compare(&mut self, input: &[u64], ours: Reply, theirs: Reply) {
+        self.run += 1;
+        if ours != theirs {
+            self.differ += 1;
+            if self.differ <= 10 {
+                let figures: Vec<String> =
+                    input.iter().map(|&b| format!("{b:016x} ({:e})", f64::from_bits(b))).collect();
+                println!("  differs: {}\n    ours   {}\n    oracle {}", figures.join(" "), ours.show(), theirs.show());
+            }
+        }
+    }
+    fn end(self) -> u64 {
+        println!(
+            "{}: {} run, {} differ, {:.1} s",
+            self.what,
+            self.run,
+            self.differ,
+            self.start.elapsed().as_secs_f64()
+        );
+        self.differ
+    }
+}
+
+/// A probability that a search meets exactly at 2^k times its first guess, found by repeating the curve on itself.
+fn met(number: u32, rng: &mut Rng) -> [f64; 3] {
+    use explicit_black::*;
+    type S = DefaultSpecialFn;
+    if number == 23 && rng.below(2) == 0 {
+        // The guess overflows, and the search starts at mu.
+        let mu = rng.magnitude(530, 1020);
+        return [inverse_gaussian_survival::<S>(mu * inputs::power(rng.whole(0, 2)), mu), mu, 0.0];
+    }
+    let (mu, factor) = (rng.magnitude(-9, 20), inputs::power(rng.whole(-6, 6)));
+    let mut p = rng.unit();
+    for _ in 0..60 {
+        let next = if number == 22 {
+            inverse_gaussian_cdf::<S>(inverse_gaussian_quantile_initial_guess::<S>(p, mu) * factor, mu)
+        } else {
+            let z = -<S as oracle::SpecialFn>::inverse_norm_cdf(p);
+            inverse_gaussian_survival::<S>(inverse_gaussian_quantile_initial_guess_from_z(z, mu) * factor, mu)
+        };
+        if next == p || !(next > 0.0 && next < 1.0) {
+            break;
+        }
+        p = next;
+    }
+    [p, mu, 0.0]
+}
+
+fn function(number: u32, count: u64, seed: u64) -> u64 {
+    let mut inputs = Inputs::new(number, seed);
+    let mut rng = Rng::new(seed + 1);
+    let mut tally = Tally::new(format!("{number} {}", name(number)));
+    for i in 0..count {
+        let input = if number > 21 && i % 8 == 7 { met(number, &mut rng) } else { inputs.next() };
+        let [a, b, c] = input.map(f64::to_bits);
+        CURRENT.with(|current| current.set([number as u64, a, b, c, 0]));
+        let Some(ours) = ours::reply(number, input) else {
+            println!("{number} {}: not there", name(number));
+            return 0;
+        };
+        tally.compare(&[a, b, c], ours, oracle_reply(number, input));
+    }
+    tally.end()
+}
+
+fn oracle_quote(q: inputs::Quote) -> Reply {
+    oracle::quote::quote(q.side, q.price, q.forward, q.strike, q.time).into()
+}
+
+fn input_of(q: inputs::Quote) -> [u64; 5] {
+    [q.side as u64, q.price.to_bits(), q.forward.to_bits(), q.strike.to_bits(), q.time.to_bits()]
+}
+
+#[cfg(quotes)]
+fn quotes(kind: usize, count: u64, seed: u64) -> u64 {
+    let mut source = Quotes::new(kind, seed);
+    let mut tally = Tally::new(format!("quotes, {}", KINDS[kind]));
+    for _ in 0..count {
+        let q = source.next();
+        CURRENT.with(|current| current.set(input_of(q)));
+        let ours = ours::quotes::quote(q.side, q.price, q.forward, q.strike, q.time);
+        tally.compare(&input_of(q), ours, oracle_quote(q));
+    }
+    tally.end()
+}
+
+#[cfg(not(quotes))]
+fn quotes(kind: usize, _: u64, _: u64) -> u64 {
+    println!("quotes, {}: not there", KINDS[kind]);
+    0
+}
+
+/// Scaled and exchanged pairs: refusal number, or total, and count agree.
+fn pairs(count: u64, seed: u64) -> u64 {
+    let mut differ = 0;
+    for kind in [5, 6] {
+        let mut source = Quotes::new(kind, seed);
+        let mut tally = Tally::new(format!("pairs, {}", KINDS[kind]));
+        for _ in 0..count {
+            let (q, other) = (source.next(), source.next());
+            let untimed = |reply: Reply| match reply {
+                Reply::Answer { total, count, .. } => Reply::Answer { total, volatility: 0, count },
+                refusal => refusal,
+            };
+            #[cfg(quotes)]
+            let answer = |q: inputs::Quote| ours::quotes::quote(q.side, q.price, q.forward, q.strike, q.time);
+            #[cfg(not(quotes))]
+            let answer = oracle_quote;
+            tally.compare(&[input_of(q), input_of(other)].concat(), untimed(answer(q)), untimed(answer(other)));
+        }
+        differ += tally.end();
+    }
+    differ
+}
+
+/// The oracle's own checks: exp, ln, ln_1p beside the platform's; its quotes beside the source's two functions.
+fn check_oracle(count: u64, seed: u64) -> u64 {
+    let place = |x: f64| {
+        let size = (x.to_bits() & !(1 << 63)) as i64;
+        if x.is_sign_negative() { -size } else { size }
+    };
+    let platform: [(u32, fn(f64) -> f64); 3] = [(3, f64::exp), (4, f64::ln), (5, f64::ln_1p)];
+    for (number, std) in platform {
+        let mut inputs = Inputs::new(number, seed);
+        let (mut worst, mut at, mut unlike) = (0, 0.0, 0);
+        for _ in 0..count {
+            let [x, ..] = inputs.next();
+            let (mine, theirs) = (oracle::functions::value(number, x, 0.0, 0.0).unwrap(), std(x));
+            if mine.is_nan() || theirs.is_nan() {
+                unlike += (mine.is_nan() != theirs.is_nan()) as u64;
+            } else if (place(mine) - place(theirs)).abs() > worst {
+                (worst, at) = ((place(mine) - place(theirs)).abs(), x);
+            }
+        }
+        println!(
+            "{}: {count} run, at most {worst} units from the platform's (at {at:e}), NaN in one only: {unlike}",
+            name(number)
+        );
+    }
+    let mut differ = 0;
+    for kind in 0..KINDS.len() {
+        let mut source = Quotes::new(kind, seed);
+        let (mut run, mut unlike, mut refused) = (0, 0, 0);
+        for _ in 0..count {
+            let q = source.next();
+            let figures = [q.price, q.forward, q.strike, q.time];
+            if q.side > 1
+                || !figures.iter().all(|x| x.is_finite())
+                || !(q.forward > 0.0 && q.strike > 0.0 && q.time >= 0.0)
+            {
+                continue;
+            }
+            run += 1;
+            let theirs = if q.side == 0 {
+                explicit_black::implied_black_volatility_input::<DefaultSpecialFn, true>(
+                    q.price, q.forward, q.strike, q.time,
+                )
+            } else {
+                explicit_black::implied_black_volatility_input::<DefaultSpecialFn, false>(
+                    q.price, q.forward, q.strike, q.time,
+                )
+            };
+            let same = match (oracle::quote::quote(q.side, q.price, q.forward, q.strike, q.time), theirs) {
+                (Outcome::Answer { volatility, .. }, Some(v)) => volatility.to_bits() == v.to_bits(),
+                (Outcome::Refusal { .. }, None) => true,
+                (Outcome::Refusal { number: 9, .. }, Some(v)) => {
+                    refused += 1;
+                    if refused <= 5 {
+                        println!("  refusal 9 where the source gives {v:e}: {:016x?}", input_of(q));
+                    }
+                    true
+                }
+                _ => false,
+            };
+            if !same {
+                unlike += 1;
+                println!("  unlike the source: {:016x?}", input_of(q));
+            }
+        }
+        differ += unlike;
+        println!("source, {}: {run} run, {unlike} unlike, {refused} refused by the departure", KINDS[kind]);
+    }
+    differ
+}
+
+fn usage() -> ! {
+    eprintln!(
+        "usage: harness FUNCTION COUNT SEED        a function of vectors (1 to 21), a search (22, 23), or `all`
+       harness quotes KIND COUNT SEED     KIND: {} or all
+       harness pairs COUNT SEED           scaled and exchanged pairs against each other
+       harness oracle COUNT SEED          the oracle against the platform's exp, ln, ln_1p and the source's entries",
+        KINDS.join(", ")
+    );
+    exit(2)
+}
+
+fn main() {
+    report_panics();
+    let args: Vec<String> = std::env::args().skip(1).collect();
+    let number = |text: &String| text.parse::<u64>().unwrap_or_else(|_| usage());
+    let words: Vec<&str> = args.iter().map(String::as_str).collect();
+    let differ = match words[..] {
+        ["quotes", kind, _, _] => (0..KINDS.len())
+            .filter(|&i| kind == "all" || KINDS[i] == kind)
+            .map(|i| quotes(i, number(&args[2]), number(&args[3])))
+            .sum(),
+        ["pairs", _, _] => pairs(number(&args[1]), number(&args[2])),
+        ["oracle", _, _] => check_oracle(number(&args[1]), number(&args[2])),
+        ["all", _, _] => (1..=23).map(|f| function(f, number(&args[1]), number(&args[2]))).sum(),
+        [f, _, _] if f.parse::<u32>().is_ok_and(|f| (1..=23).contains(&f)) => {
+            function(number(&args[0]) as u32, number(&args[1]), number(&args[2]))
+        }
+        _ => usage(),
+    };
+    exit(if differ == 0 { 0 } else { 1 });
+}

@@ -1,0 +1,91 @@
+//! Our code behind one interface: what each crate that is there answers.
+
+use crate::Reply;
+
+/// Our answer to a function of `vectors` (1 to 21) or of the searches (22, 23); none where its layer is not there.
+pub fn reply(function: u32, [a, b, c]: [f64; 3]) -> Option<Reply> {
+    let _ = (a, b, c);
+    match function {
+        #[cfg(layer1)]
+        1..=9 => Some(Reply::value(layer1(function, a, b, c))),
+        #[cfg(layer2)]
+        10..=16 => Some(Reply::value(layer2(function, a))),
+        #[cfg(layer3)]
+        17 => Some(Reply::value(ours::bs_option_price::bs_option_price::normalised_black(a, b, c))),
+        #[cfg(layer3)]
+        18 => Some(Reply::value(ours::bs_option_price::bs_option_price::negative_abs_log_moneyness(a, b))),
+        #[cfg(quotes)]
+        19 => Some(quotes::normalised(a, b)),
+        #[cfg(layer4)]
+        20..=23 => Some(layer4::reply(function, a, b)),
+        _ => None,
+    }
+}
+
+#[cfg(layer1)]
+fn layer1(function: u32, a: f64, b: f64, c: f64) -> f64 {
+    use ours::arithmetic::{basic, exp, ln, mul_add, sqrt};
+    match function {
+        1 => sqrt::sqrt(a),
+        2 => mul_add::mul_add(a, b, c),
+        3 => exp::exp(a),
+        4 => ln::ln(a),
+        5 => ln::ln_1p(a),
+        6 => basic::trunc(a),
+        7 => basic::signum(a),
+        8 => basic::max(a, b),
+        _ => basic::min(a, b),
+    }
+}
+
+#[cfg(layer2)]
+fn layer2(function: u32, a: f64) -> f64 {
+    use ours::special_function::{error_function, normal_distribution};
+    match function {
+        10 => error_function::erf_cody(a),
+        11 => error_function::erfc_cody(a),
+        12 => error_function::erfcx_cody(a),
+        13 => error_function::erfinv(a),
+        14 => normal_distribution::norm_pdf(a),
+        15 => normal_distribution::norm_cdf(a),
+        _ => normal_distribution::inverse_norm_cdf(a),
+    }
+}
+
+#[cfg(layer4)]
+mod layer4 {
+    use crate::Reply;
+    use ours::explicit_black::counted::{Evaluation, Quantile};
+    use ours::explicit_black::{curves, quantile, survival};
+
+    const ALLOWED: u64 = 2263;
+
+    fn evaluation(result: Evaluation) -> Reply {
+        match result {
+            Evaluation::Value(value, _) => Reply::value(value),
+            Evaluation::Spent => Reply::Spent,
+        }
+    }
+
+    fn root(result: Quantile) -> Reply {
+        match result {
+            Quantile::Root(root, left) => Reply::root(root, ALLOWED - left),
+            Quantile::None(left) => Reply::NoRoot { count: ALLOWED - left },
+            Quantile::Spent => Reply::Spent,
+        }
+    }
+
+    pub fn reply(function: u32, a: f64, b: f64) -> Reply {
+        match function {
+            20 => evaluation(curves::inverse_gaussian_cdf(a, b, ALLOWED)),
+            21 => evaluation(curves::inverse_gaussian_survival(a, b, ALLOWED)),
+            22 => root(quantile::inverse_gaussian_quantile(a, b, ALLOWED)),
+            _ => root(survival::inverse_gaussian_quantile_from_survival(a, b, ALLOWED)),
+        }
+    }
+}
+
+#[cfg(quotes)]
+pub mod quotes {
+    include!("quotes.rs");
+}

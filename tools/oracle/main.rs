@@ -1,0 +1,40 @@
+//! `oracle vectors` and `oracle sheet`: the interfaces of the proved programs, answered by the Rust source.
+
+use std::io::{self, BufRead, BufReader, BufWriter, Read, Write};
+use std::process::exit;
+
+fn vectors() -> io::Result<()> {
+    let mut input = BufReader::with_capacity(1 << 20, io::stdin().lock());
+    let mut output = BufWriter::with_capacity(1 << 20, io::stdout().lock());
+    let mut record = [0u8; 28];
+    while !input.fill_buf()?.is_empty() {
+        if input.read_exact(&mut record).is_err() {
+            break;
+        }
+        let function = u32::from_be_bytes(record[0..4].try_into().unwrap());
+        let double = |at: usize| f64::from_bits(u64::from_be_bytes(record[at..at + 8].try_into().unwrap()));
+        match oracle::functions::line(function, double(4), double(12), double(20)) {
+            Some(line) => writeln!(output, "{line}")?,
+            None => break,
+        }
+    }
+    output.flush()
+}
+
+fn sheet() -> io::Result<()> {
+    let mut bytes = Vec::new();
+    // One byte more than the longest sheet is enough to refuse.
+    io::stdin().lock().take(4 + 36 * 1000 + 1).read_to_end(&mut bytes)?;
+    io::stdout().write_all(oracle::sheet::text(&bytes).as_bytes())
+}
+
+fn main() -> io::Result<()> {
+    match std::env::args().nth(1).as_deref() {
+        Some("vectors") => vectors(),
+        Some("sheet") => sheet(),
+        _ => {
+            eprintln!("usage: oracle vectors | sheet   (standard input to standard output)");
+            exit(2)
+        }
+    }
+}

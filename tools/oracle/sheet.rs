@@ -1,0 +1,32 @@
+//! Document 01's sheet: XDR in, lines out.
+
+use crate::quote::{Outcome, quote};
+use std::fmt::Write;
+
+fn word(bytes: &[u8], at: usize) -> u32 {
+    u32::from_be_bytes(bytes[at..at + 4].try_into().unwrap())
+}
+
+fn double(bytes: &[u8], at: usize) -> f64 {
+    f64::from_bits(u64::from_be_bytes(bytes[at..at + 8].try_into().unwrap()))
+}
+
+/// The whole output of a sheet.
+pub fn text(sheet: &[u8]) -> String {
+    let count = if sheet.len() < 4 { u32::MAX } else { word(sheet, 0) };
+    if count > 1000 || sheet.len() != 4 + 36 * count as usize {
+        return "S 10\n".to_string();
+    }
+    let mut out = String::new();
+    let (mut answers, mut refusals) = (0, 0);
+    for (i, q) in sheet[4..].chunks(36).enumerate() {
+        let result = quote(word(q, 0), double(q, 4), double(q, 12), double(q, 20), double(q, 28));
+        match result {
+            Outcome::Answer { .. } => answers += 1,
+            Outcome::Refusal { .. } => refusals += 1,
+        }
+        writeln!(out, "{} {}", i + 1, result.line()).unwrap();
+    }
+    writeln!(out, "T {answers} {refusals}").unwrap();
+    out
+}

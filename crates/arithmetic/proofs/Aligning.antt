@@ -1,16 +1,18 @@
 -- The product and the addend on one scale: exactly where the shift is short, and with the lower one jammed where it is long. Assumes nothing.
-use mathlib.Core.Path.{_≡_, refl, sym, ap, _∙_}
+use mathlib.Core.Path.{_≡_, refl, sym, ap, _∙_, subst}
 use mathlib.Core.Logic.{_⊎_, inl, inr}
 use mathlib.Core.Bool.{Bool}
 use Prim.Native.Nat.{ℕ, _+_, _-_, _*_, _/_, _%_, _^_, _≤_, _<_, min}
-use native.Mathlib.Nat.{le-trans, le-of-eq, one-mul, mul-le-mul, lt-of-lt-of-le, lt-of-le-of-lt, eq-zero-or-pos, zero-mul, mul-assoc, add-mul, mul-pos, mul-lt-mul-of-pos-right, mul-le-mul-right, mod-lt, div-le-self}
+use native.Mathlib.Nat.{le-refl, le-trans, le-of-eq, one-mul, mul-le-mul, lt-of-lt-of-le, lt-of-le-of-lt, eq-zero-or-pos, zero-mul, mul-assoc, add-mul, mul-pos, mul-lt-mul-of-pos-right, mul-le-mul-right, mod-lt, div-le-self}
 use native.Mathlib.Omega.{arith}
 use lib.Dec.{lit≤, lit<}
-use lib.Pow.{pow-pos, split}
+use lib.Pow.{pow-pos, pow-mono, shl-lt, split}
 use lib.Ieee.{binary64, sum}
-use Rattle.arithmetic.specs.Words.{jammed}
+use Rattle.arithmetic.specs.declared.pair.Pair.{Pair}
+use Rattle.arithmetic.specs.declared.mul_add.Terms.{Terms}
+use Rattle.arithmetic.specs.Words.{val, jammed}
 use Rattle.arithmetic.specs.declared.mul_add.Parts.{Parts}
-use Rattle.arithmetic.specs.Steps.{Exponent, Operands}
+use Rattle.arithmetic.specs.Steps.{Exponent, Operands, Aligned}
 use Rattle.arithmetic.specs.Laws.Numbers.{lt-or-le, pow-split}
 use Rattle.arithmetic.proofs.Jamming.{jam-first, jam-second}
 
@@ -78,47 +80,95 @@ module _ (n d x e : ℕ) (E : d + x ≡ e) where
 
   -- the other term is M * 2 ^ (e + 1)
   module _ (a b M : ℕ) (wide : (e ≤ 1072) ⊎ (q + 2 ^ 54 < M)) (A : a ≡ M * 2 ^ (e + 1)) (B : b ≡ M * 2 ^ (e + 1)) (s t : Bool) where
-    pub first : sum binary64 s (n * 2 ^ x) t a (2 ^ 2148) ≡ sum binary64 s (jammed n d * 2 ^ e) t b (2 ^ 2148)
+    first : sum binary64 s (n * 2 ^ x) t a (2 ^ 2148) ≡ sum binary64 s (jammed n d * 2 ^ e) t b (2 ^ 2148)
     first = rw (exact, cut, A, B) (jam-first e M q (rest * 2 ^ x) (min 1 rest * 2 ^ e) exact-lt cut-lt alike wide s t)
 
-    pub second : sum binary64 s a t (n * 2 ^ x) (2 ^ 2148) ≡ sum binary64 s b t (jammed n d * 2 ^ e) (2 ^ 2148)
+    second : sum binary64 s a t (n * 2 ^ x) (2 ^ 2148) ≡ sum binary64 s b t (jammed n d * 2 ^ e) (2 ^ 2148)
     second = rw (exact, cut, A, B) (jam-second e M q (rest * 2 ^ x) (min 1 rest * 2 ^ e) exact-lt cut-lt alike wide s t)
 
-pub jammed-small : (n d : ℕ) → n < 2 ^ 106 → jammed n d < 2 ^ 127
+jammed-small : (n d : ℕ) → n < 2 ^ 106 → jammed n d < 2 ^ 127
 jammed-small n d h = lt-of-lt-of-le (go (n / 2 ^ (d + 1)) (n % 2 ^ (d + 1)) (div-le-self n (2 ^ (d + 1)))) (lit≤ {m = 2 ^ 108} {n = 2 ^ 127} tt)
   where
     go : (q r : ℕ) → q ≤ n → q * 2 + min 1 r < 324518553658426726783156020576256
     go q r a = omega arith
 
 -- a shift up to a common scale
-pub shifted : (n d x e : ℕ) → d + x ≡ e → n * 2 ^ e ≡ n * 2 ^ d * 2 ^ x
+shifted : (n d x e : ℕ) → d + x ≡ e → n * 2 ^ e ≡ n * 2 ^ d * 2 ^ x
 shifted n d x e h = ap (λ (y : ℕ). n * y) (sym (pow-split d x e h)) ∙ sym (mul-assoc n (2 ^ d) (2 ^ x))
 
-module _ (p ep m em : ℕ) (o : Operands p ep m em) (s t : Bool) where
-  -- the addend lies far above
-  pub far-above : ep ≤ em → 64 < em - ep → sum binary64 s (p * 2 ^ ep) t (m * 2 ^ em) (2 ^ 2148) ≡ sum binary64 s (jammed p (em - ep - 64) * 2 ^ (em - 64)) t ((m * 2 ^ 64 + 0) * 2 ^ (em - 64)) (2 ^ 2148)
-  far-above l h =
-      let half = shifted m 63 (em - 64 + 1) em (omega arith) in
-      first p (em - ep - 64) ep (em - 64) (omega arith) (m * 2 ^ em) ((m * 2 ^ 64 + 0) * 2 ^ (em - 64)) (m * 2 ^ 63) (go (lt-or-le em 1137)) half
-      (ap (λ (y : ℕ). y * 2 ^ (em - 64)) (flat (m * 2 ^ 64)) ∙ sym (shifted m 64 (em - 64) em (omega arith)) ∙ half) s t
+-- n * 2 ^ d, for an n of j digits and a d of at most k
+pub shift-lt : (n j d k : ℕ) → n < 2 ^ j → d ≤ k → n * 2 ^ d < 2 ^ (j + k)
+shift-lt n j d k h l = lt-of-lt-of-le (shl-lt j d h) (pow-mono {j = j + k} (omega arith))
+
+pub flat : (y : ℕ) → 0 * 18446744073709551616 + y ≡ y
+flat y = omega arith
+
+-- ---- the four ways to one scale
+module _ (p : Pair) (ep m em : ℕ) (o : Operands (val p) ep m em) where
+  -- the addend lies above, and is shifted up
+  pub near-above : ep ≤ em → em - ep ≤ 64 → (b : Pair) → val b ≡ (0 * 2 ^ 64 + m) * 2 ^ (em - ep) → Aligned (val p) ep m em (record { a = p; b = b; e = ep })
+  near-above l h b v =
+      let w : val b ≡ m * 2 ^ (em - ep) = v ∙ ap (λ (x : ℕ). x * 2 ^ (em - ep)) (flat m) in
+      record {
+        same = λ s t. ap (λ (x : ℕ). sum binary64 s (val p * 2 ^ ep) t x (2 ^ 2148)) (shifted m (em - ep) ep em (omega arith) ∙ ap (λ (x : ℕ). x * 2 ^ ep) (sym w));
+        first-small = lt-of-lt-of-le (o .product-small) (lit≤ tt);
+        second-small = subst (λ (x : ℕ). x < 2 ^ 127) (sym w) (lt-of-lt-of-le (shift-lt m 53 (em - ep) 64 (o .addend-small) h) (lit≤ tt));
+        low = o .product-low;
+      }
+
+  -- it lies far above, and the product is jammed
+  pub far-above : ep ≤ em → 64 < em - ep → (a : Pair) → val a ≡ jammed (val p) (em - ep - 64) → Aligned (val p) ep m em (record { a = a; b = record { hi = m; lo = 0 }; e = em - 64 })
+  far-above l h a v = record {
+    same = λ s t. rw v
+        (first (val p) (em - ep - 64) ep (em - 64) (omega arith) (m * 2 ^ em) ((m * 2 ^ 64 + 0) * 2 ^ (em - 64)) (m * 2 ^ 63) (go (lt-or-le em 1137)) half
+        (ap (λ (y : ℕ). y * 2 ^ (em - 64)) (none (m * 2 ^ 64)) ∙ sym (shifted m 64 (em - 64) em (omega arith)) ∙ half) s t);
+    first-small = subst (λ (x : ℕ). x < 2 ^ 127) (sym v) (jammed-small (val p) (em - ep - 64) (o .product-small));
+    second-small = lt-of-lt-of-le (small (o .addend-small)) (lit≤ tt);
+    low = omega (arith, o .addend-low);
+  }
     where
-      flat : (y : ℕ) → y + 0 ≡ y
-      flat y = omega arith
+      none : (y : ℕ) → y + 0 ≡ y
+      none y = omega arith
 
-      wide : (q : ℕ) → q ≤ p → p < 81129638414606681695789005144064 → 4503599627370496 ≤ m → q + 18014398509481984 < m * 9223372036854775808
-      wide q a b d = omega arith
+      half : m * 2 ^ em ≡ m * 2 ^ 63 * 2 ^ (em - 64 + 1)
+      half = shifted m 63 (em - 64 + 1) em (omega arith)
 
-      go : (em < 1137) ⊎ (1137 ≤ em) → (em - 64 ≤ 1072) ⊎ (p / 2 ^ (em - ep - 64 + 1) + 2 ^ 54 < m * 2 ^ 63)
+      small : m < 9007199254740992 → m * 18446744073709551616 + 0 < 332306998946228968225951765070086144
+      small g = omega arith
+
+      wide : (q p : ℕ) → q ≤ p → p < 81129638414606681695789005144064 → 4503599627370496 ≤ m → q + 18014398509481984 < m * 9223372036854775808
+      wide q p a b d = omega arith
+
+      go : (em < 1137) ⊎ (1137 ≤ em) → (em - 64 ≤ 1072) ⊎ (val p / 2 ^ (em - ep - 64 + 1) + 2 ^ 54 < m * 2 ^ 63)
       go (inl a) = inl (omega arith)
-      go (inr a) = inr (wide (p / 2 ^ (em - ep - 64 + 1)) (div-le-self p (2 ^ (em - ep - 64 + 1))) (o .product-small) (o .addend-lead (omega arith)))
+      go (inr a) = inr (wide (val p / 2 ^ (em - ep - 64 + 1)) (val p) (div-le-self (val p) (2 ^ (em - ep - 64 + 1))) (o .product-small) (o .addend-lead (omega arith)))
 
-  -- it lies far below
-  pub far-below : em < ep → 20 < ep - em → sum binary64 s (p * 2 ^ ep) t (m * 2 ^ em) (2 ^ 2148) ≡ sum binary64 s (p * 2 ^ 20 * 2 ^ (ep - 20)) t (jammed m (ep - em - 20) * 2 ^ (ep - 20)) (2 ^ 2148)
-  far-below l h =
-      let half = shifted p 19 (ep - 20 + 1) ep (omega arith) in
+  -- the addend lies below, and the product is shifted up
+  pub near-below : em < ep → ep - em ≤ 20 → (a : Pair) → val a ≡ val p * 2 ^ (ep - em) → Aligned (val p) ep m em (record { a = a; b = record { hi = 0; lo = m }; e = em })
+  near-below l h a v = record {
+    same = λ s t. ap (λ (x : ℕ). sum binary64 s x t (m * 2 ^ em) (2 ^ 2148)) (shifted (val p) (ep - em) em ep (omega arith) ∙ ap (λ (x : ℕ). x * 2 ^ em) (sym v))
+        ∙ ap (λ (x : ℕ). sum binary64 s (val a * 2 ^ em) t (x * 2 ^ em) (2 ^ 2148)) (sym (flat m));
+    first-small = subst (λ (x : ℕ). x < 2 ^ 127) (sym v) (lt-of-lt-of-le (shift-lt (val p) 106 (ep - em) 20 (o .product-small) h) (lit≤ tt));
+    second-small = subst (λ (x : ℕ). x < 2 ^ 127) (sym (flat m)) (lt-of-lt-of-le (o .addend-small) (lit≤ tt));
+    low = o .addend-low;
+  }
+
+  -- it lies far below, and is jammed
+  pub far-below : em < ep → 20 < ep - em → (a b : Pair) → val a ≡ val p * 2 ^ 20 → val b ≡ jammed (0 * 2 ^ 64 + m) (ep - em - 20) → Aligned (val p) ep m em (record { a = a; b = b; e = ep - 20 })
+  far-below l h a b v w =
+      let z : val b ≡ jammed m (ep - em - 20) = w ∙ ap (λ (x : ℕ). jammed x (ep - em - 20)) (flat m) in
       let high : 1074 < ep = omega (arith, o .addend-least) in
-      second m (ep - em - 20) em (ep - 20) (omega arith) (p * 2 ^ ep) (p * 2 ^ 20 * 2 ^ (ep - 20)) (p * 2 ^ 19)
-      (inr (wide (m / 2 ^ (ep - em - 20 + 1)) (div-le-self m (2 ^ (ep - em - 20 + 1))) (o .addend-small) (o .product-lead high))) half (sym (shifted p 20 (ep - 20) ep (omega arith)) ∙ half) s t
+      record {
+        same = λ s t. rw (v, z)
+            (second m (ep - em - 20) em (ep - 20) (omega arith) (val p * 2 ^ ep) (val p * 2 ^ 20 * 2 ^ (ep - 20)) (val p * 2 ^ 19)
+            (inr (wide (m / 2 ^ (ep - em - 20 + 1)) (val p) (div-le-self m (2 ^ (ep - em - 20 + 1))) (o .addend-small) (o .product-lead high))) half (sym (shifted (val p) 20 (ep - 20) ep (omega arith)) ∙ half) s t);
+        first-small = subst (λ (x : ℕ). x < 2 ^ 127) (sym v) (lt-of-lt-of-le (shift-lt (val p) 106 20 20 (o .product-small) (le-refl 20)) (lit≤ tt));
+        second-small = subst (λ (x : ℕ). x < 2 ^ 127) (sym z) (jammed-small m (ep - em - 20) (lt-of-lt-of-le (o .addend-small) (lit≤ tt)));
+        low = omega (arith, o .product-low);
+      }
     where
-      wide : (q : ℕ) → q ≤ m → m < 9007199254740992 → 4503599627370496 ≤ p → q + 18014398509481984 < p * 524288
-      wide q a b d = omega arith
+      half : val p * 2 ^ ep ≡ val p * 2 ^ 19 * 2 ^ (ep - 20 + 1)
+      half = shifted (val p) 19 (ep - 20 + 1) ep (omega arith)
+
+      wide : (q p : ℕ) → q ≤ m → m < 9007199254740992 → 4503599627370496 ≤ p → q + 18014398509481984 < p * 524288
+      wide q p a b d = omega arith

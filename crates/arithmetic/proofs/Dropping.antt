@@ -14,7 +14,7 @@ use lib.Ieee.Fits.{round-is}
 use lib.Ieee.Nearest.{closest, closest-same, div-same}
 use Rattle.arithmetic.specs.Laws.Numbers.{cmp-lt, cmp-gt, lt-or-le, pow-split, size-is}
 
--- ---- a number to the nearest multiple of 2 * H goes by its multiples of H and by whether anything is left
+-- ---- the multiple of 2 * H nearest to a number depends on its multiples of H and on whether anything is left
 between : (H q r : ℕ) → r < H → 0 < r → closest (q * H + r) (2 * H) ≡ closest (q * 2 + 1) 4
 between H q r R P =
     let n = q * H + r in

@@ -4,7 +4,9 @@ use mathlib.Core.Logic.{_⊎_, inl, inr}
 use mathlib.Core.Bool.{Bool, true, false, cond}
 use Prim.Native.Nat.{ℕ, suc, _+_, _-_, _*_, _/_, _%_, _^_, _≤_, _<_, compare}
 use native.Mathlib.Nat.{le-trans, le-of-eq, lt-of-le-of-lt, eq-zero-or-pos, mul-le-mul-right}
+use native.Mathlib.Numerals.{add-one}
 use native.Mathlib.Omega.{arith}
+use lib.Bits.{bitAnd, and-mask}
 use lib.Dec.{lit<}
 use lib.Pow.{pow-add, pow-pos, pow-mono}
 use lib.Ieee.{Float, inf, binary64, odd, units, ofFields, ofBits}
@@ -13,7 +15,7 @@ use lib.Ieee.Bits.{ofBits-fits}
 use lib.Ieee.Exact.{HasValue, odd-sign}
 use lib.Ieee.Nearest.{closest, nearest-ge}
 use borrow.Author.Tests.{lt-ltb, le-ltb}
-use Rattle.arithmetic.specs.Laws.Numbers.{lt-or-le, pow-split}
+use Rattle.arithmetic.specs.Laws.Numbers.{cmp-lt, cmp-gt, lt-or-le, pow-split}
 use Rattle.arithmetic.specs.Laws.Patterns.{signed-is, read-zero, read-more, value-unique}
 use Rattle.arithmetic.specs.Laws.Own.{value-under}
 
@@ -74,9 +76,19 @@ module _ (q k : ℕ) (Q : q ≤ 2 ^ 53) (lead : 0 < k → 2 ^ 52 ≤ q) where
   unfolding units
   infinite-pattern s h = pattern s ∙ sym (ap (λ (b : Bool). cond b (odd 54 s q k 1074) (inf s)) (le-ltb (q * 2 ^ k) (2 ^ 2098) (out-of-range h)))
 
--- m / 4, rounded, is such a q
+-- ---- m / 4, rounded, is such a q
 pub quarter-most : (m : ℕ) → m < 2 ^ 55 → closest m 4 ≤ 2 ^ 53
 quarter-most m h = le-trans (nearest-le (m / 4) (compare (m % 4 * 2) 4)) (omega arith)
 
 pub quarter-least : (m : ℕ) → 2 ^ 54 ≤ m → 2 ^ 52 ≤ closest m 4
 quarter-least m h = let a : 4503599627370496 ≤ m / 4 = omega arith in le-trans a (nearest-ge (m / 4) (compare (m % 4 * 2) 4))
+
+-- by its last two bits
+pub quarter-under : (m : ℕ) → bitAnd m 3 < 2 → m / 4 ≡ closest m 4
+quarter-under m h = let e = and-mask m 2 in rw (cmp-lt (m % 4 * 2) 4 (omega arith))
+
+pub quarter-tie : (m : ℕ) → bitAnd m 3 ≡ 2 → m / 4 + bitAnd (m / 4) 1 ≡ closest m 4
+quarter-tie m h = let e : m % 4 ≡ 2 = sym (and-mask m 2) ∙ h in rw (e, and-mask (m / 4) 1)
+
+pub quarter-over : (m : ℕ) → (bitAnd m 3 ≡ 2 → ⊥) → 2 ≤ bitAnd m 3 → m / 4 + 1 ≡ closest m 4
+quarter-over m n h = let e = and-mask m 2 in rw (cmp-gt (m % 4 * 2) 4 (omega arith)) (add-one (m / 4))

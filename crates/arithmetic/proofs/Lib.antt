@@ -1,3 +1,4 @@
+-- Laws that only the proofs of the code cite.
 mod Pairs
 mod Dropping
 mod Jamming

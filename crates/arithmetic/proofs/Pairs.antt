@@ -12,8 +12,10 @@ use lib.Pow.{pow-add, pow-pos, pow-mono, shr-lt, split}
 use lib.Bits.{bitAnd, and-mask, mask-lt}
 use lib.Count.{leadingZeros, leading-of-zero, leading-top}
 use lib.Ieee.{size}
+use lib.Ieee.Digits.{size-le}
 use lib.Ieee.Nearest.{div-same}
-use Rattle.arithmetic.specs.Words.{jammed}
+use Rattle.arithmetic.specs.declared.pair.Pair.{Pair}
+use Rattle.arithmetic.specs.Words.{val, jammed}
 use Rattle.arithmetic.specs.Laws.Numbers.{same-ltb, lt-or-le, pow-split, mul-lt-pow, size-is}
 
 -- (n + 1) * K
@@ -204,7 +206,13 @@ jam-some n d h l e g = let m = div-add-mod' n (2 ^ (d + 1)) in omega arith
 pub jam-none : (n d v : ℕ) → v ≡ n / 2 ^ (d + 1) * 2 → n ≤ n / 2 ^ (d + 1) * 2 ^ (d + 1) → v ≡ jammed n d
 jam-none n d v e g = let m = div-add-mod' n (2 ^ (d + 1)) in omega arith
 
--- ---- how many digits, by the zeros that lead
+-- ---- how many digits: at most 128, and by the zeros that lead
+pub val-lt : (v : Pair) → v .hi < 2 ^ 64 → v .lo < 2 ^ 64 → val v < 2 ^ 128
+val-lt v H L = digits-lt {q = v .hi} {m = 2 ^ 64} {r = v .lo} {c = 2 ^ 64} H L
+
+pub val-size : (v : Pair) → v .hi < 2 ^ 64 → v .lo < 2 ^ 64 → size (val v) ≤ 128
+val-size v H L = size-le (val v) 128 (val-lt v H L)
+
 size-zero : size 0 ≡ 0
 unfolding size
 size-zero = refl

@@ -1,4 +1,4 @@
--- `sqrt` of what a bit pattern stands for, on each of the ways through the code, and the pattern that the code puts together. Assumes nothing.
+-- `sqrt` of what a bit pattern stands for, on each path of the code, and the pattern that the code puts together. Assumes nothing.
 use mathlib.Core.Path.{_≡_, refl, sym, ap, _∙_, subst}
 use mathlib.Core.Logic.{_⊎_, inl, inr}
 use Prim.Native.Nat.{ℕ, zero, suc, _+_, _-_, _*_, _/_, _%_, _^_, _≤_, _<_}

@@ -1,21 +1,24 @@
 -- The figures from which `negative_abs_log_moneyness` takes logarithms are the same for two prices and for 2 ^ k times each; and so is the test by which it chooses between them,
 -- although 0.5 * larger may round below the normal range: it does so only where larger is below 2 ^ -1021, and then smaller is above its half on both sides. Assumes nothing.
 use mathlib.Core.Path.{_≡_, refl, sym, ap, _∙_, subst}
-use mathlib.Core.Logic.{inl}
-use Prim.Native.Nat.{ℕ, zero, suc, _*_, _/_, _^_, _≤_, _<_}
+use mathlib.Core.Logic.{_⊎_, inl, inr}
+use Prim.Native.Nat.{ℕ, _*_, _/_, _^_, _≤_, _<_}
 use native.Mathlib.Nat.{le-trans, le-of-eq, le-of-lt, le-of-suc-le-suc, lt-of-lt-of-le, one-mul, zero-add, mul-assoc, mul-comm, mul-left-comm, mul-right-comm, mul-pos, mul-le-mul-right, mul-le-mul-left, le-of-mul-le-mul-right, div-lt-iff-lt-mul, le-mul-of-pos-right}
-use mathlib.Core.Bool.{Bool, true, false, not}
-use lib.Dec.{T, leb, leb→le, le→leb, nleb→lt, eqb}
+use mathlib.Core.Bool.{true, false}
+use native.Mathlib.Omega.{arith}
+use borrow.Author.Tests.{ne-eqb}
+use lib.Dec.{T, leb, leb→le, le→leb, eqb}
 use lib.Pow.{pow-pos, pow-mono}
-use lib.Ieee.{Float, nan, inf, fin, binary64, low, prec, size, unlike, fits, le, mul, div, sub, round, ofBits}
+use lib.Ieee.{Float, nan, inf, fin, binary64, low, prec, size, fits, le, mul, div, sub, round, ofBits}
 use lib.Ieee.Digits.{size-lt}
 use lib.Ieee.Bits.{is-true}
 use lib.Ieee.Order.{round-mono}
 use lib.Ieee.Scale.{finite}
 use lib.Ieee.Positive.{num, den, den-pos, positive, above, above-of-le, le→cross, own-value, value-pos}
+use Rattle.arithmetic.specs.Laws.Numbers.{lt-or-le}
 use Rattle.arithmetic.specs.Laws.Ratio.{leb-ratio}
 use Rattle.arithmetic.specs.Basic.{minus?}
-use Rattle.arithmetic.specs.Laws.Times.{Times}
+use Rattle.arithmetic.specs.Laws.Times.{Times, positive-sign}
 use Rattle.arithmetic.specs.Laws.Own.{round-self, grid-under}
 use Rattle.arithmetic.specs.Laws.Compare.{le-times, cross-left}
 use Rattle.arithmetic.specs.Laws.Sums.{sub-times, sub-finite, round-finite}
@@ -35,18 +38,12 @@ above-positive (inf s) p a = absurd p
 above-positive (fin true m e) p a = absurd a
 above-positive (fin false m e) p a = a
 
-positive-plus : (x : Float) → T (positive x) → minus? x ≡ false
-positive-plus nan p = absurd p
-positive-plus (inf s) p = absurd p
-positive-plus (fin true m e) p = absurd p
-positive-plus (fin false m e) p = refl
-
 pub ordinary-positive : (x : Float) → Ordinary x → T (positive x)
 unfolding ofBits
 ordinary-positive x o = above-positive x (o .bounded) (above-of-le minPositive x tt (o .large))
 
 pub plus : (x : Float) → Ordinary x → minus? x ≡ false
-plus x o = positive-plus x (ordinary-positive x o)
+plus x o = positive-sign x (ordinary-positive x o)
 
 pub num-above : (x : Float) → Ordinary x → 0 < num x
 num-above x o = value-pos x (num x) (den x) (ordinary-positive x o) (den-pos x) (own-value x (ordinary-positive x o))
@@ -65,7 +62,7 @@ module _ (s : Float) (o : Ordinary s) (a c : ℕ) (C : 0 < c) (h : a * den s ≤
 -- ---- 0.5 * larger against smaller
 half-is : (l : Float) → Ordinary l → mul binary64 half l ≡ round binary64 false (num half * num l) (den half * den l)
 unfolding ofBits
-half-is l o = mul-is binary64 half l tt (o .bounded) ∙ ap (λ (t : Bool). round binary64 (unlike false t) (num half * num l) (den half * den l)) (plus l o)
+half-is l o = mul-is binary64 half l tt (o .bounded) ∙ rw (plus l o)
 
 half-finite : (l : Float) → Ordinary l → T (finite (mul binary64 half l))
 unfolding ofBits
@@ -97,7 +94,7 @@ low-half A C s Z o h =
 module _ (k : ℕ) (s l s' l' : Float) (o : Ordinary s) (q : Ordinary l) (o' : Ordinary s') (q' : Ordinary l') (h : Times k s s') (g : Times k l l') where
   pub half-test : le (mul binary64 half l') s' ≡ le (mul binary64 half l) s
   unfolding ofBits
-  half-test = go (leb (prec binary64) (size (A * 2 ^ low binary64 / C))) (leb→le (prec binary64) (size (A * 2 ^ low binary64 / C))) (nleb→lt (prec binary64) (size (A * 2 ^ low binary64 / C)))
+  half-test = go (lt-or-le (size (A * 2 ^ low binary64 / C)) (prec binary64))
     where
       A : ℕ
       A = num half * num l
@@ -126,11 +123,11 @@ module _ (k : ℕ) (s l s' l' : Float) (o : Ordinary s) (q : Ordinary l) (o' : O
           is-true (le (mul binary64 half l') s') (half-le s' l' o' q' (leb→le (A' * den s') (num s' * C') (subst T (sym same) (le→leb (A * den s) (num s * C) e))))
           ∙ sym (is-true (le (mul binary64 half l) s) (half-le s l o q e))
 
-      go : (b : Bool) → (T b → prec binary64 ≤ size (A * 2 ^ low binary64 / C)) → (T (not b) → size (A * 2 ^ low binary64 / C) < prec binary64) → le (mul binary64 half l') s' ≡ le (mul binary64 half l) s
-      go true y n =
+      go : (size (A * 2 ^ low binary64 / C) < prec binary64) ⊎ (prec binary64 ≤ size (A * 2 ^ low binary64 / C)) → le (mul binary64 half l') s' ≡ le (mul binary64 half l) s
+      go (inl n) = both (low-half A C s (mul-pos (den-pos half) (den-pos l)) o n)
+      go (inr y) =
           le-times k (mul binary64 half l) s (mul binary64 half l') s'
-          (subst (λ (j : ℕ). Times j (mul binary64 half l) (mul binary64 half l')) (zero-add k) (mul-times binary64 0 k half l half l' scaled g (inl (y tt)) (half-finite l' q'))) h
-      go false y n = both (low-half A C s (mul-pos (den-pos half) (den-pos l)) o (n tt))
+          (subst (λ (j : ℕ). Times j (mul binary64 half l) (mul binary64 half l')) (zero-add k) (mul-times binary64 0 k half l half l' scaled g (inl y) (half-finite l' q'))) h
 
   pub difference : Times k (sub binary64 l s) (sub binary64 l' s')
   difference = sub-times binary64 k l s l' s' (q .held) (o .held) g h (sub-finite binary64 l' s' (q' .held) (o' .held) (q' .bounded) (o' .bounded) (plus l' q') (plus s' o'))
@@ -150,8 +147,7 @@ unfolding round ofBits
 minPositive-is = refl
 
 pub positive-zero : (n : ℕ) → 0 < n → eqb n 0 ≡ false
-positive-zero (suc n) h = lib.Dec.eqb·suc-zero n
-positive-zero zero h = absurd (native.Mathlib.Nat.lt-irrefl 0 h)
+positive-zero n h = ne-eqb n 0 (λ e. omega arith)
 
 pub quotient-is : (s l : Float) → Ordinary s → Ordinary l → div binary64 s l ≡ round binary64 false (num s * den l) (num l * den s)
 quotient-is s l o q = div-is binary64 s l (o .bounded) (q .bounded) ∙ rw (plus s o, plus l q, positive-zero (num l) (num-above l q))

@@ -94,6 +94,9 @@ mul-neg f (fin s m e) nan = refl
 mul-neg f (fin s m e) (inf t) = rw (unlike-not s t) (neg-cond (eqb m 0) nan (inf (unlike s t)))
 mul-neg f (fin s m e) (fin t n d) = rw (unlike-not s t) (round-neg f (unlike s t) (m * up e * (n * up d)) (down e * down d))
 
+pub mul-neg-right : (f : Format) (x y : Float) → mul f x (neg y) ≡ neg (mul f x y)
+mul-neg-right f x y = mul-swap f x (neg y) ∙ mul-neg f y x ∙ ap neg (mul-swap f y x)
+
 pub div-neg : (f : Format) (x y : Float) → div f (neg x) y ≡ neg (div f x y)
 unfolding div neg
 div-neg f nan y = refl

@@ -81,10 +81,11 @@ built k q K lo hi =
     normal b (omega arith) (omega arith) ∙ rw (d, e)
 
 -- ---- no NaN
+pub bits-no-nan : (b : ℕ) → b % 9223372036854775808 ≤ 9218868437227405312 → T (not (nanBits binary64 b))
+bits-no-nan b h = false-not (nanBits binary64 b) (nanBits-above binary64 b ∙ le-ltb 9218868437227405312 (b % 9223372036854775808) h)
+
 pub built-no-nan : (k q : ℕ) → k < 2046 → q < 9007199254740992 → T (not (nanBits binary64 (k * 4503599627370496 + q)))
-built-no-nan k q K hi =
-    false-not (nanBits binary64 (k * 4503599627370496 + q))
-    (nanBits-above binary64 (k * 4503599627370496 + q) ∙ le-ltb 9218868437227405312 ((k * 4503599627370496 + q) % 9223372036854775808) (omega arith))
+built-no-nan k q K hi = bits-no-nan (k * 4503599627370496 + q) (omega arith)
 
 -- with the sign taken off, at most the infinity's pattern
 pub no-nan : (b : ℕ) → isNan (ofBits binary64 b) ≡ false → b % 9223372036854775808 ≤ 9218868437227405312

@@ -1,4 +1,4 @@
--- `sqrt` goes with powers of four: where y is 4 ^ k times x exactly, √y is 2 ^ k times √x exactly, both as rounded.
+-- `sqrt` scales by powers of four: where y is 4 ^ k times x exactly, √y is 2 ^ k times √x exactly, both as rounded.
 -- That holds for all finite values above zero of the format, subnormal ones too, since no √x is subnormal. Assumes nothing.
 use mathlib.Core.Path.{_≡_, sym, ap, _∙_}
 use Prim.Native.Nat.{ℕ, _+_, _-_, _*_, _/_, _^_, _≤_, _<_}

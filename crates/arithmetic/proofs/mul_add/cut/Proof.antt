@@ -1,13 +1,12 @@
 -- `arithmetic::mul_add::cut` meets its contract. Assumes nothing.
 use mathlib.Core.Path.{_≡_, ap, _∙_, subst}
-use Prim.Native.Nat.{ℕ, _+_, _-_, _^_, _≤_, _<_}
+use Prim.Native.Nat.{ℕ, _+_, _-_, _≤_, _<_}
 use native.Mathlib.Nat.{lt-of-lt-of-le}
 use native.Mathlib.Omega.{arith}
 use lib.Dec.{lit≤}
-use lib.Arith.{digits-lt}
 use lib.Ieee.{size}
-use lib.Ieee.Digits.{size-le}
 use Rattle.arithmetic.specs.Words.{val}
+use Rattle.arithmetic.proofs.Pairs.{val-size}
 use Rattle.arithmetic.proofs.Cutting.{cut-jam, cut-up, up-by, up-short}
 use borrow.Author.Needs.{needs}
 use Rattle.arithmetic.proofs.mul_add.cut.Statement.{statement}
@@ -17,7 +16,7 @@ some : (c : tie.Start) → 0 < size (val (c .args .v))
 some c = subst (λ (x : ℕ). 0 < x) (c .pre .0) (c .pre .1 .0)
 
 few : (c : tie.Start) → size (val (c .args .v)) ≤ 128
-few c = size-le (val (c .args .v)) 128 (digits-lt {q = c .args .v .hi} {m = 2 ^ 64} {r = c .args .v .lo} {c = 2 ^ 64} (search needs) (search needs))
+few c = val-size (c .args .v) (search needs) (search needs)
 
 place : (c : tie.Start) → c .args .at ≡ 1074 + (size (val (c .args .v)) + c .args .e - 1127)
 place c = c .pre .1 .1 .1 ∙ ap (λ (x : ℕ). 1074 + (x + c .args .e - 1127)) (c .pre .0)

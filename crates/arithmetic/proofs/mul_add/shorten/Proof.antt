@@ -4,12 +4,13 @@ use Prim.Native.Nat.{ℕ, _+_, _*_, _^_, _≤_, _<_}
 use native.Mathlib.Nat.{lt-irrefl, zero-mul}
 use native.Mathlib.Omega.{arith}
 use lib.Dec.{lit<}
-use lib.Arith.{digits-lt, lt-one}
+use lib.Arith.{lt-one}
 use lib.Ieee.{size}
-use lib.Ieee.Digits.{size-lt, size-le}
+use lib.Ieee.Digits.{size-lt}
 use Rattle.arithmetic.specs.Words.{val}
 use Rattle.arithmetic.specs.Steps.{Shortened}
 use borrow.Author.Needs.{needs}
+use Rattle.arithmetic.proofs.Pairs.{val-size}
 use Rattle.arithmetic.proofs.mul_add.shorten.Statement.{statement}
 use Rattle.arithmetic.proofs.mul_add.shorten.Tie as tie
 
@@ -18,7 +19,7 @@ unfolding size
 nothing = record { count = refl; same = refl; short = lit< tt; low = lit< tt; lead = λ h. absurd (lt-irrefl 0 h) }
 
 few : (c : tie.Start) → size (val (c .args .v)) ≤ 128
-few c = size-le (val (c .args .v)) 128 (digits-lt {q = c .args .v .hi} {m = 2 ^ 64} {r = c .args .v .lo} {c = 2 ^ 64} (search needs) (search needs))
+few c = val-size (c .args .v) (search needs) (search needs)
 
 sum-fits : (n z e : ℕ) → n ≡ z → z ≤ 128 → e < 4096 → n + e < 18446744073709551616
 sum-fits n z e a b d = omega arith

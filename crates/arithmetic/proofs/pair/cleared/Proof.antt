@@ -2,15 +2,15 @@
 use mathlib.Core.Path.{sym, ap, _∙_, subst}
 use Prim.Native.Nat.{ℕ, _*_, _^_, _<_}
 use native.Mathlib.Nat.{lt-of-lt-of-le, lt-of-le-of-lt, div-mul-le-self, div-eq-of-lt, zero-mul}
-use lib.Arith.{digits-lt}
 use lib.Pow.{pow-mono}
 use borrow.Author.Needs.{needs}
 use Rattle.arithmetic.specs.Words.{val}
+use Rattle.arithmetic.proofs.Pairs.{val-lt}
 use Rattle.arithmetic.proofs.pair.cleared.Statement.{statement}
 use Rattle.arithmetic.proofs.pair.cleared.Tie as tie
 
 held : (c : tie.Start) → val (c .args .a) < 2 ^ 128
-held c = digits-lt {q = c .args .a .hi} {m = 2 ^ 64} {r = c .args .a .lo} {c = 2 ^ 64} (search needs) (search needs)
+held c = val-lt (c .args .a) (search needs) (search needs)
 
 up-requires : tie.Need-up-requires
 up-requires c κs =

@@ -2,16 +2,15 @@
 use mathlib.Core.Path.{_≡_, sym, ap, _∙_, subst}
 use Prim.Native.Nat.{ℕ, _+_, _*_, _/_, _^_, _≤_, _<_}
 use native.Mathlib.Nat.{lt-of-le-of-lt}
-use lib.Arith.{digits-lt}
 use borrow.Author.Needs.{needs}
 use borrow.Author.Tests.{ltb-true, ltb-false}
 use Rattle.arithmetic.specs.Words.{val}
-use Rattle.arithmetic.proofs.Pairs.{twice-le, jam-room, jam-some, jam-none}
+use Rattle.arithmetic.proofs.Pairs.{val-lt, twice-le, jam-room, jam-some, jam-none}
 use Rattle.arithmetic.proofs.pair.jam.Statement.{statement}
 use Rattle.arithmetic.proofs.pair.jam.Tie as tie
 
 held : (c : tie.Start) → val (c .args .a) < 2 ^ 128
-held c = digits-lt {q = c .args .a .hi} {m = 2 ^ 64} {r = c .args .a .lo} {c = 2 ^ 64} (search needs) (search needs)
+held c = val-lt (c .args .a) (search needs) (search needs)
 
 up-requires : tie.Need-up-requires
 up-requires c κs =

@@ -40,5 +40,3 @@ quotient-spec =
     (λ c. search needs)
     (λ c. search needs)
     (λ c. search needs))
-
--- x

@@ -13,6 +13,8 @@ use arithmetic::ln::ln;
 use arithmetic::ln::ln_1p;
 use arithmetic::mul_add::mul_add;
 use arithmetic::sqrt::sqrt;
+use bs_option_price::negative_abs_log_moneyness;
+use bs_option_price::normalised_black;
 use record::figure;
 use record::function;
 use special_function::error_function::erf_cody;
@@ -59,6 +61,15 @@ fn special_function_of(number: u64, a: f64) -> Outcome {
     }
 }
 
+// Those of layer three.
+fn bs_option_price_of(number: u64, a: f64, b: f64, c: f64) -> Outcome {
+    match number {
+        17 => Outcome::Number(normalised_black(a, b, c)),
+        18 => Outcome::Number(negative_abs_log_moneyness(a, b)),
+        _ => Outcome::Unknown,
+    }
+}
+
 // The result of a record's function.
 fn evaluate(input: &[u8; 28]) -> Outcome {
     let number = function(input);
@@ -66,10 +77,12 @@ fn evaluate(input: &[u8; 28]) -> Outcome {
     let b = figure(input, 12);
     let c = figure(input, 20);
     if number < 10 {
-        arithmetic_of(number, a, b, c)
-    } else {
-        special_function_of(number, a)
+        return arithmetic_of(number, a, b, c);
     }
+    if number < 17 {
+        return special_function_of(number, a);
+    }
+    bs_option_price_of(number, a, b, c)
 }
 
 // Reads a record and writes its line; whether to go on.

@@ -1,0 +1,46 @@
+-- The rule of the table at each of its entries, and the price at t = 0.
+use mathlib.Core.Path.{_≡_, refl}
+use mathlib.Core.Bool.{Bool, true, false, _&&_}
+use Prim.Native.Nat.{ℕ, zero, suc, _<_, _≤_}
+use native.Mathlib.Nat.{le-of-suc-le-suc, not-suc-le-zero}
+use native.Mathlib.Omega.{arith}
+use lib.Dec.{T}
+use lib.Ieee.{Float, ofBits, eq, mul}
+use lib.Ieee.Fits.{and-l, and-r}
+use lib.ListN.{length}
+use Rattle.arithmetic.specs.Operations.{_⊗_, nought, two}
+use Rattle.special_function.specs.Constants.{sixteenthRootDblEpsilon}
+use Rattle.bs_option_price.specs.Table.{patterns, right, allBelow, allRight}
+use Rattle.bs_option_price.specs.BsOptionPrice.{tau, normalisedBlack}
+
+-- one test, computed
+all-right : T allRight
+unfolding allRight
+all-right = tt
+
+at-each : (n : ℕ) (test : ℕ → Bool) → T (allBelow n test) → (i : ℕ) → i < n → T (test i)
+unfolding allBelow
+at-each zero test t i h = absurd (not-suc-le-zero h)
+at-each (suc n) test t zero h = and-l (test 0) (allBelow n (λ j. test (suc j))) t
+at-each (suc n) test t (suc i) h =
+    at-each n (λ j. test (suc j)) (and-r (test 0) (allBelow n (λ j. test (suc j))) t) i (le-of-suc-le-suc h)
+
+pub table-has-153-entries : length patterns ≡ 153
+unfolding patterns
+table-has-153-entries = refl
+
+-- the coefficient of e ^ j in ak follows the rule
+pub coefficient-is-right : (k j : ℕ) → k < 17 → j ≤ k → T (right k j)
+unfolding allRight
+coefficient-is-right k j k<17 j≤k =
+    at-each (suc k) (right k) (at-each 17 (λ i. allBelow (suc i) (right i)) all-right k k<17) j (omega arith)
+
+-- TAU's product is exact
+pub tau-is : two ⊗ sixteenthRootDblEpsilon ≡ tau
+unfolding mul ofBits
+tau-is = refl
+
+-- the price at t = 0, whatever the other figures and the functions below are
+pub black-at-zero : (halfThetaX h : Float) → normalisedBlack halfThetaX h nought ≡ nought
+unfolding normalisedBlack eq ofBits
+black-at-zero halfThetaX h = refl

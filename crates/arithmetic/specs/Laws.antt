@@ -21,3 +21,5 @@ pub mod Signs
 pub mod Bounds
 pub mod PowersOfTwo
 pub mod Logarithm
+pub mod Quotients
+pub mod ExpFits

@@ -2,3 +2,4 @@
 pub mod Table
 pub mod BsOptionPrice
 pub mod Laws
+pub mod LawsMoneyness

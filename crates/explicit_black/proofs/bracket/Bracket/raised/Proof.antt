@@ -1,0 +1,15 @@
+-- `explicit_black::bracket::Bracket::raised` meets its contract. Assumes nothing.
+use Rattle.explicit_black.proofs.bracket.Bracket.raised.Statement.{statement}
+use Rattle.explicit_black.proofs.bracket.Bracket.raised.Tie as tie
+
+floor-requires : tie.Need-floor-requires
+floor-requires c κs = tt
+
+returns : tie.Need-returns
+returns c = rw (← c .before .floor .ensures, c .if1 .taken)
+
+returns-2 : tie.Need-returns-2
+returns-2 c = rw (← c .before .floor .ensures, c .if1 .left)
+
+pub raised-spec : {M : Type 1} → statement M
+raised-spec = tie.close (tie.spec floor-requires returns returns-2)

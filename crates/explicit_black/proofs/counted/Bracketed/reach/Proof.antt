@@ -1,0 +1,19 @@
+-- `explicit_black::counted::Bracketed::reach` meets its contract. Assumes nothing.
+use borrow.Author.Needs.{needs}
+use Rattle.explicit_black.proofs.counted.Bracketed.reach.Statement.{statement}
+use Rattle.explicit_black.proofs.counted.Bracketed.reach.Tie as tie
+
+enum-known-self : tie.Need-enum-known-self
+enum-known-self c = search needs
+
+enum-told : tie.Need-enum-told
+enum-told c = search needs
+
+returns : tie.Need-returns
+returns c = rw (c .before .self .given .1)
+
+returns-2 : tie.Need-returns-2
+returns-2 c = search needs
+
+pub reach-spec : {M : Type 1} → statement M
+reach-spec = tie.close (tie.spec enum-known-self enum-told returns returns-2)

@@ -1,0 +1,19 @@
+-- `explicit_black::curves::starting_point` meets its contract. Assumes nothing.
+use mathlib.Core.Path.{sym, _∙_}
+use Rattle.explicit_black.specs.Curves.{startingPoint}
+use Rattle.explicit_black.proofs.curves.starting_point.Statement.{statement}
+use Rattle.explicit_black.proofs.curves.starting_point.Tie as tie
+
+is-proper-requires : tie.Need-is-proper-requires
+is-proper-requires c κs = tt
+
+returns : tie.Need-returns
+unfolding startingPoint
+returns c = rw (sym (c .before .is-proper .ensures) ∙ c .if1 .taken)
+
+returns-2 : tie.Need-returns-2
+unfolding startingPoint
+returns-2 c = rw (sym (c .before .is-proper .ensures) ∙ c .if1 .left)
+
+pub starting-point-spec : {M : Type 1} → statement M
+starting-point-spec = tie.close (tie.spec is-proper-requires returns returns-2)

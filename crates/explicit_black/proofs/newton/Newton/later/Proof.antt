@@ -1,0 +1,30 @@
+-- `explicit_black::newton::Newton::later` meets its contract. Assumes nothing.
+use Rattle.explicit_black.specs.Newton.{later}
+use borrow.Author.Needs.{needs}
+use Rattle.explicit_black.proofs.newton.Newton.later.Statement.{statement}
+use Rattle.explicit_black.proofs.newton.Newton.later.Tie as tie
+
+enum-known-self : tie.Need-enum-known-self
+enum-known-self c = search needs
+
+returns : tie.Need-returns
+unfolding later
+returns c = rw (c .before .before .self .given .1, c .if1 .taken)
+
+landed-requires : tie.Need-landed-requires
+landed-requires c κs = tt
+
+enum-told : tie.Need-enum-told
+enum-told c = search needs
+
+returns-2 : tie.Need-returns-2
+unfolding later
+returns-2 c = rw (c .landed .ensures, c .before .before .before .self .given .1, c .before .if1 .left)
+
+returns-3 : tie.Need-returns-3
+unfolding later
+returns-3 c = rw (c .enum-told .given .1)
+
+pub later-spec : {M : Type 1} → statement M
+later-spec =
+    tie.close (tie.spec enum-known-self returns landed-requires enum-told returns-2 returns-3)

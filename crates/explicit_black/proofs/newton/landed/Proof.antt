@@ -1,0 +1,27 @@
+-- `explicit_black::newton::landed` meets its contract. Assumes nothing.
+use mathlib.Core.Path.{sym, _∙_}
+use Rattle.explicit_black.specs.Newton.{landed}
+use Rattle.explicit_black.proofs.newton.landed.Statement.{statement}
+use Rattle.explicit_black.proofs.newton.landed.Tie as tie
+
+is-proper-requires : tie.Need-is-proper-requires
+is-proper-requires c κs = tt
+
+is-settled-requires : tie.Need-is-settled-requires
+is-settled-requires c κs = tt
+
+returns : tie.Need-returns
+unfolding landed
+returns c = rw (sym (c .before .before .before .is-proper .ensures) ∙ c .before .before .if1 .taken, sym (c .before .is-settled .ensures) ∙ c .if2 .taken)
+
+returns-2 : tie.Need-returns-2
+unfolding landed
+returns-2 c = rw (sym (c .before .before .before .is-proper .ensures) ∙ c .before .before .if1 .taken, sym (c .before .is-settled .ensures) ∙ c .if2 .left)
+
+returns-3 : tie.Need-returns-3
+unfolding landed
+returns-3 c = rw (sym (c .before .is-proper .ensures) ∙ c .if1 .left)
+
+pub landed-spec : {M : Type 1} → statement M
+landed-spec =
+    tie.close (tie.spec is-proper-requires is-settled-requires returns returns-2 returns-3)

@@ -1,0 +1,56 @@
+-- `from_call_price` meets its contract: each return by the tests that led there. Assumes nothing.
+use Rattle.explicit_black.proofs.Paying.{afford-searched}
+use Rattle.explicit_black.specs.Quote.{totalAt, fromCallPrice}
+use Rattle.explicit_black.specs.Counted.{afford, mapped}
+use lib.Ieee.{nanBits}
+use mathlib.Core.Path.{sym, _∙_}
+use borrow.Author.Needs.{needs}
+use Rattle.explicit_black.proofs.quote.from_call_price.Statement.{statement}
+use Rattle.explicit_black.proofs.quote.from_call_price.Tie as tie
+
+inverse-gaussian-quantile-from-survival-requires :
+    tie.Need-inverse-gaussian-quantile-from-survival-requires
+inverse-gaussian-quantile-from-survival-requires c κs = search needs
+
+total-requires : tie.Need-total-requires
+total-requires c κs = search needs
+
+returns : tie.Need-returns
+unfolding fromCallPrice
+returns c = rw (c .before .before .if1 .taken, afford-searched, ← c .before .inverse-gaussian-quantile-from-survival .ensures) (c .total .ensures)
+
+float-from-bits-t7 : tie.Need-float-from-bits-t7
+unfolding nanBits
+float-from-bits-t7 c = tt
+
+returns-2 : tie.Need-returns-2
+unfolding afford fromCallPrice
+returns-2 c = rw (c .before .if1 .left, c .if2 .taken)
+
+returns-3 : tie.Need-returns-3
+unfolding afford fromCallPrice
+returns-3 c = rw (c .before .before .if1 .left, c .before .if2 .left, c .if3 .taken)
+
+inverse-gaussian-quantile-requires : tie.Need-inverse-gaussian-quantile-requires
+inverse-gaussian-quantile-requires c κs = search needs
+
+total-requires-2 : tie.Need-total-requires-2
+total-requires-2 c κs = search needs
+
+returns-4 : tie.Need-returns-4
+unfolding fromCallPrice
+returns-4 c = rw (c .before .before .before .before .if1 .left, c .before .before .before .if2 .left, c .before .before .if3 .left, afford-searched, ← c .before .inverse-gaussian-quantile .ensures) (c .total2 .ensures)
+
+pub from-call-price-spec : {M : Type 1} → statement M
+from-call-price-spec =
+    tie.close
+    (tie.spec
+    inverse-gaussian-quantile-from-survival-requires
+    total-requires
+    returns
+    float-from-bits-t7
+    returns-2
+    returns-3
+    inverse-gaussian-quantile-requires
+    total-requires-2
+    returns-4)

@@ -1,0 +1,28 @@
+-- `explicit_black::survival::survival_bracket_at` meets its contract. Assumes nothing.
+use mathlib.Core.Path.{sym}
+use Rattle.explicit_black.specs.Survival.{survivalBracketAt}
+use Rattle.explicit_black.specs.LawsCounted.{afford-some}
+use borrow.Author.Needs.{needs}
+use Rattle.explicit_black.proofs.survival.survival_bracket_at.Statement.{statement}
+use Rattle.explicit_black.proofs.survival.survival_bracket_at.Tie as tie
+
+from-below-requires : tie.Need-from-below-requires
+from-below-requires c κs = search needs
+
+from-above-requires : tie.Need-from-above-requires
+from-above-requires c κs = search needs
+
+reach-requires : tie.Need-reach-requires
+reach-requires c κs = search needs
+
+returns : tie.Need-returns
+unfolding survivalBracketAt
+returns c = rw (c .from-below .ensures, c .before .if1 .taken)
+
+returns-2 : tie.Need-returns-2
+unfolding survivalBracketAt
+returns-2 c = rw (c .reach .ensures, c .before .from-above .ensures, c .before .before .if1 .left) (sym (afford-some _ _))
+
+pub survival-bracket-at-spec : {M : Type 1} → statement M
+survival-bracket-at-spec =
+    tie.close (tie.spec from-below-requires from-above-requires reach-requires returns returns-2)

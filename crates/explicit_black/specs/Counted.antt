@@ -1,0 +1,53 @@
+-- A result with how many evaluations it took; and what a caller gets of it who is allowed only so many. Definitions only.
+use Prim.Native.Nat.{ℕ, zero, suc, _+_}
+
+-- the source's `Option`
+pub data Option (A : Type 0) : Type 0 where
+  some : A → Option A
+  none : Option A
+
+-- a result with how many evaluations it took
+pub record Counted (R : Type 0) : Type 0 where
+  pub result : R
+  pub count : ℕ
+
+-- a result with no evaluation
+abbrev pub atOnce : {R : Type 0} → R → Counted R
+atOnce r = record { result = r; count = 0 }
+
+-- one evaluation more in front
+abbrev pub tick : {R : Type 0} → Counted R → Counted R
+tick c = record { result = c .result; count = suc (c .count) }
+
+-- a second search, which goes on from the first one's result
+abbrev pub then : {R Q : Type 0} → Counted R → (R → Counted Q) → Counted Q
+then c f = record { result = f (c .result) .result; count = c .count + f (c .result) .count }
+
+-- the result as one that might have been none
+abbrev pub someOf : {R : Type 0} → Counted R → Counted (Option R)
+someOf c = record { result = some (c .result); count = c .count }
+
+-- what a caller with an allowance gets: the result with the number that is still allowed, or nothing since the allowance was spent
+pub data Metered (R : Type 0) : Type 0 where
+  have : R → ℕ → Metered R
+  spent : Metered R
+
+-- the result changed by f
+abbrev pub mapped : {R Q : Type 0} → (R → Q) → Metered R → Metered Q
+mapped f (have r n) = have (f r) n
+mapped f spent = spent
+
+-- the result as one that might have been none
+abbrev pub allSome : {R : Type 0} → Metered R → Metered (Option R)
+allSome m = mapped (λ r. some r) m
+
+-- r, which takes k evaluations, where n are allowed
+unfoldable pub pay : {R : Type 0} → R → ℕ → ℕ → Metered R
+pay r zero n = have r n
+pay r (suc k) zero = spent
+pay r (suc k) (suc n) = pay r k n
+
+-- n allowed: the result, with n - count left, if the count is at most n
+unfoldable pub afford : {R : Type 0} → ℕ → Counted R → Metered R
+unfolding pay
+afford n c = pay (c .result) (c .count) n

@@ -1,0 +1,331 @@
+// The entries: the total volatility and the volatility of a price, or the number of a refusal.
+use crate::counted::Quantile;
+use crate::curves::is_proper;
+use crate::quantile::inverse_gaussian_quantile;
+use crate::survival::inverse_gaussian_quantile_from_survival;
+use arithmetic::basic::abs;
+use arithmetic::basic::is_finite;
+use arithmetic::basic::max;
+use arithmetic::exp::exp;
+use arithmetic::sqrt::sqrt;
+use bs_option_price::negative_abs_log_moneyness;
+use special_function::error_function::erfinv;
+ghost use mathlib.Core.Path.{_≡_};
+ghost use mathlib.Core.Bool.{_&&_};
+ghost use lib.Ieee.{lt};
+ghost use Rattle.arithmetic.specs.Basic.{isFinite};
+ghost use Rattle.arithmetic.specs.Operations.{_⊗_, nought};
+ghost use Rattle.arithmetic.specs.Sqrt.{sqrt};
+ghost use Rattle.bs_option_price.specs.BsOptionPrice.{negativeAbsLogMoneyness};
+ghost use Rattle.explicit_black.specs.Counted.{atOnce, mapped, afford};
+ghost use Rattle.explicit_black.specs.Meanings.{quantile};
+ghost use Rattle.explicit_black.specs.Quote.{impliedNormalisedVolatilityAtm, atTheMoney, totalAt, fromCallPrice, normalisedOutcome, impliedBlackVolatilityNormalised, firstRefusal, intrinsicValue, priceBound, normalisedTimeValue, valued, priced, inputOutcome, impliedBlackVolatilityInput, volatility};
+ghost use Rattle.explicit_black.specs.Replies.{replied, solved, Within, RepliesTo};
+
+const MIN_POSITIVE: f64 = 2.2250738585072014e-308;
+
+const SQRT_2: f64 = 1.4142135623730951;
+
+// No quote makes more evaluations.
+const MAX_EVALUATIONS: u64 = 2263;
+
+// The total volatility or the number of a refusal, with how many evaluations are still allowed; or
+// spent where one more was needed.
+pub enum Solved {
+    Total(f64, u64),
+    Refused(u32, u64),
+    Spent,
+}
+
+// What an entry hands back.
+pub enum Reply {
+    Answer {
+        total: f64,
+        volatility: f64,
+        count: u64,
+    },
+    Refusal {
+        number: u32,
+        count: u64,
+    },
+}
+
+fn are_finite(x: f64, y: f64) -> bool
+    ensures { λ r. ⌜ r ≡ (isFinite x && isFinite y) ⌝ }
+{
+    is_finite(x) && is_finite(y)
+}
+
+// total / √time; at time zero 0.
+fn volatility(total: f64, time: f64, root_time: f64) -> f64
+    requires { ⌜ «root_time» ≡ sqrt time ⌝ }
+    ensures { λ r. ⌜ r ≡ volatility time total ⌝ }
+{
+    if time == 0.0 { 0.0 } else { total / root_time }
+}
+
+impl Solved {
+    // The reply of a quote that was allowed MAX_EVALUATIONS: its count is what its calls took off.
+    fn reply(self, time: f64, root_time: f64) -> Reply
+        requires { ⌜ («root_time» ≡ sqrt time) × Within 2263 (solved self) ⌝ }
+        ensures { λ r. ⌜ RepliesTo 2263 time (solved self) (replied r) ⌝ }
+    {
+        match self {
+            Solved::Total(total, left) => Reply::Answer {
+                total: total,
+                volatility: volatility(total, time, root_time),
+                count: MAX_EVALUATIONS - left,
+            },
+            Solved::Refused(number, left) => Reply::Refusal {
+                number: number,
+                count: MAX_EVALUATIONS - left,
+            },
+            // not reached
+            Solved::Spent => Reply::Refusal {
+                number: 9,
+                count: MAX_EVALUATIONS,
+            },
+        }
+    }
+}
+
+fn implied_normalised_volatility_atm(beta: f64) -> f64
+    ensures { λ r. ⌜ r ≡ impliedNormalisedVolatilityAtm beta ⌝ }
+{
+    2.0 * SQRT_2 * erfinv(beta)
+}
+
+// Refused where the value is NaN or below 0.
+fn at_the_money(price: f64, allowed: u64) -> Solved
+    ensures { λ r. ⌜ solved r ≡ afford allowed (atOnce (atTheMoney price)) ⌝ }
+{
+    let total = implied_normalised_volatility_atm(price);
+    if total >= 0.0 {
+        return Solved::Total(total, allowed);
+    }
+    Solved::Refused(9, allowed)
+}
+
+impl Quantile {
+    // Refused where there is no root that is finite and above 0.
+    fn total(self) -> Solved
+        ensures { λ r. ⌜ solved r ≡ mapped totalAt (quantile self) ⌝ }
+    {
+        match self {
+            Quantile::Root(x, left) => {
+                if is_proper(x) {
+                    return Solved::Total(2.0 / sqrt(x), left);
+                }
+                Solved::Refused(9, left)
+            }
+            Quantile::None(left) => Solved::Refused(9, left),
+            Quantile::Spent => Solved::Spent,
+        }
+    }
+}
+
+// The price is given as a fraction of its bound.
+fn from_call_price(otm_call_price: f64, mu: f64, allowed: u64) -> Solved
+    ensures { λ r. ⌜ solved r ≡ afford allowed (fromCallPrice «otm_call_price» mu) ⌝ }
+{
+    if otm_call_price < 1.0e-5 {
+        return inverse_gaussian_quantile_from_survival(otm_call_price, mu, allowed).total();
+    }
+    let probability = 1.0 - otm_call_price;
+    if probability <= 0.0 {
+        return Solved::Total(f64::from_bits(0x7ff0_0000_0000_0000), allowed);
+    }
+    if probability >= 1.0 {
+        return Solved::Total(0.0, allowed);
+    }
+    inverse_gaussian_quantile(probability, mu, allowed).total()
+}
+
+// The normalised entry after its test for figures that are not finite, with an allowance.
+pub fn normalised_outcome(log_moneyness: f64, price: f64, allowed: u64) -> Solved
+    ensures { λ r. ⌜ solved r ≡ afford allowed (normalisedOutcome «log_moneyness» price) ⌝ }
+{
+    if price <= 0.0 {
+        if price == 0.0 {
+            return Solved::Total(0.0, allowed);
+        }
+        return Solved::Refused(7, allowed);
+    }
+    let abs_x = abs(log_moneyness);
+    let b_max = exp(-0.5 * abs_x);
+    if price >= b_max {
+        if price == b_max {
+            return Solved::Total(f64::from_bits(0x7ff0_0000_0000_0000), allowed);
+        }
+        return Solved::Refused(8, allowed);
+    }
+    if abs_x == 0.0 {
+        return at_the_money(price, allowed);
+    }
+    from_call_price(price / b_max, 2.0 / abs_x, allowed)
+}
+
+pub fn implied_black_volatility_normalised(log_moneyness: f64, normalised_price: f64) -> Reply
+    ensures { λ r. ⌜ replied r ≡ impliedBlackVolatilityNormalised «log_moneyness» «normalised_price» ⌝ }
+{
+    if !are_finite(log_moneyness, normalised_price) {
+        return Reply::Refusal {
+            number: 2,
+            count: 0,
+        };
+    }
+    // as at time 1
+    normalised_outcome(log_moneyness, normalised_price, MAX_EVALUATIONS).reply(1.0, 1.0)
+}
+
+fn are_above_zero(forward: f64, strike: f64) -> bool
+    ensures { λ r. ⌜ r ≡ (lt nought forward && lt nought strike) ⌝ }
+{
+    forward > 0.0 && strike > 0.0
+}
+
+// The number of the first of tests 1 to 4 that applies, or 0.
+pub fn first_refusal(side: u32, price: f64, forward: f64, strike: f64, time: f64) -> u32
+    ensures { λ r. ⌜ r ≡ firstRefusal side price forward strike time ⌝ }
+{
+    if side > 1 {
+        return 1;
+    }
+    if !are_finite(price, forward) {
+        return 2;
+    }
+    if !are_finite(strike, time) {
+        return 2;
+    }
+    if !are_above_zero(forward, strike) {
+        return 3;
+    }
+    if time < 0.0 { 4 } else { 0 }
+}
+
+fn intrinsic_value(side: u32, forward: f64, strike: f64) -> f64
+    ensures { λ r. ⌜ r ≡ intrinsicValue side forward strike ⌝ }
+{
+    if side == 0 {
+        forward - strike
+    } else {
+        strike - forward
+    }
+}
+
+// No price is above the forward of a call, or the strike of a put.
+fn price_bound(side: u32, forward: f64, strike: f64) -> f64
+    ensures { λ r. ⌜ r ≡ priceBound side forward strike ⌝ }
+{
+    if side == 0 { forward } else { strike }
+}
+
+// `roots` is the product of the roots of forward and strike.
+fn normalised_time_value(price: f64, intrinsic: f64, roots: f64) -> f64
+    ensures { λ r. ⌜ r ≡ normalisedTimeValue price intrinsic roots ⌝ }
+{
+    if intrinsic > 0.0 {
+        return (price - intrinsic) / roots;
+    }
+    price / roots
+}
+
+// From the normalised time value on.
+pub fn valued(forward: f64, strike: f64, time_value: f64, allowed: u64) -> Solved
+    ensures { λ r. ⌜ solved r ≡ afford allowed (valued (negativeAbsLogMoneyness forward strike) «time_value») ⌝ }
+{
+    if time_value <= MIN_POSITIVE {
+        if time_value >= 0.0 {
+            return Solved::Total(0.0, allowed);
+        }
+        return Solved::Refused(7, allowed);
+    }
+    normalised_outcome(
+        negative_abs_log_moneyness(forward, strike),
+        time_value,
+        allowed,
+    )
+}
+
+// After tests 5 and 6.
+pub fn below_bound(
+    price: f64,
+    intrinsic: f64,
+    forward: f64,
+    strike: f64,
+    root_forward: f64,
+    root_strike: f64,
+    allowed: u64,
+) -> Solved
+    ensures { λ r. ⌜ solved r ≡ afford allowed (valued (negativeAbsLogMoneyness forward strike) (normalisedTimeValue price intrinsic («root_forward» ⊗ «root_strike»))) ⌝ }
+{
+    let time_value = normalised_time_value(price, intrinsic, root_forward * root_strike);
+    valued(forward, strike, time_value, allowed)
+}
+
+// From the price on.
+pub fn priced(
+    price: f64,
+    intrinsic: f64,
+    bound: f64,
+    forward: f64,
+    strike: f64,
+    time: f64,
+    allowed: u64,
+) -> Solved
+    ensures { λ r. ⌜ solved r ≡ afford allowed (priced price intrinsic bound (sqrt forward ⊗ sqrt strike) (negativeAbsLogMoneyness forward strike) time) ⌝ }
+{
+    if time == 0.0 {
+        if price == max(intrinsic, 0.0) {
+            return Solved::Total(0.0, allowed);
+        }
+        return Solved::Refused(5, allowed);
+    }
+    if price >= bound {
+        if price == bound {
+            return Solved::Total(f64::from_bits(0x7ff0_0000_0000_0000), allowed);
+        }
+        return Solved::Refused(6, allowed);
+    }
+    below_bound(
+        price,
+        intrinsic,
+        forward,
+        strike,
+        sqrt(forward),
+        sqrt(strike),
+        allowed,
+    )
+}
+
+// A quote with an allowance.
+pub fn input_outcome(
+    side: u32,
+    price: f64,
+    forward: f64,
+    strike: f64,
+    time: f64,
+    allowed: u64,
+) -> Solved
+    ensures { λ r. ⌜ solved r ≡ afford allowed (inputOutcome side price forward strike time) ⌝ }
+{
+    let number = first_refusal(side, price, forward, strike, time);
+    if number != 0 {
+        return Solved::Refused(number, allowed);
+    }
+    let intrinsic = intrinsic_value(side, forward, strike);
+    let bound = price_bound(side, forward, strike);
+    priced(price, intrinsic, bound, forward, strike, time, allowed)
+}
+
+pub fn implied_black_volatility_input(
+    side: u32,
+    price: f64,
+    forward: f64,
+    strike: f64,
+    time: f64,
+) -> Reply
+    ensures { λ r. ⌜ replied r ≡ impliedBlackVolatilityInput side price forward strike time ⌝ }
+{
+    input_outcome(side, price, forward, strike, time, MAX_EVALUATIONS).reply(time, sqrt(time))
+}

@@ -29,8 +29,8 @@ pub fn signum(x: f64) -> f64
     }
 }
 
-// The whole part of |x|, and 2^52 from there on: the pattern's last 1075 - field digits are below
-// the unit, all of them for an exponent's field below 1023.
+// The whole part of |x|, and 2^52 from there on. The pattern's last 1075 - field digits are below the
+// unit; a field below 1012, where that is more than 63, is one of a value below 1.
 pub(crate) fn whole_part(x: f64) -> u64
     requires { ⌜ T (not (isNan x)) ⌝ }
     ensures { λ r. ⌜ r ≡ wholePart x ⌝ }

@@ -66,7 +66,6 @@ fn series(f: f64, k: f64, kl: f64) -> f64
     s * (g + r) + kl - g + f + k * LN2_HIGH
 }
 
-// The natural logarithm.
 pub fn ln(x: f64) -> f64
     ensures { λ r. ⌜ r ≡ ln x ⌝ }
 {

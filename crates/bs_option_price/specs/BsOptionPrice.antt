@@ -24,11 +24,11 @@ eta = bits 0xC02A_0000_0000_0000
 
 -- ---- regions
 
--- h < ETA && t + h < TAU + 0.5 + ETA
+-- where the asymptotic expansion answers
 unfoldable pub isRegion1 : Float → Float → Bool
 isRegion1 h t = lt h eta && lt (t ⊕ h) (tau ⊕ half ⊕ eta)
 
--- h · (-0.5 / ETA) + (-TAU + t) < 0.0
+-- where the expansion for small t answers
 unfoldable pub isRegion2 : Float → Float → Bool
 isRegion2 h t = lt (mulAdd2Sel h (neg half ⊘ eta) (neg tau ⊕ t)) nought
 
@@ -69,7 +69,7 @@ firstAbove value (x ∷ xs) = cond (lt value x) 0 (suc (firstAbove value xs))
 unfoldable pub position : Float → ℕ
 position value = firstAbove value thresholds
 
--- `if idx <= last { omega = omega · q + coefficient }`
+-- one coefficient more, if the position is at most `last`
 unfoldable pub term : ℕ → ℕ → Float → Float → Float → Float
 term idx last omega q coefficient = cond (leb idx last) (mulAdd2Sel omega q coefficient) omega
 
@@ -119,7 +119,7 @@ yPrimeTailExpansionRationalFunctionPartPlus1 w =
     w
     one
 
--- the rational function of order (7,7): the first product is by h, the others by -h
+-- the quotient for h from -4 to -0.46875: the first product is by h, the others by -h
 unfoldable pub yPrimeMiddle : Float → Float
 yPrimeMiddle h =
     evaluate

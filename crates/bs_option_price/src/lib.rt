@@ -13,6 +13,7 @@ use arithmetic::ln::ln;
 use arithmetic::ln::ln_1p;
 use special_function::constants::FRAC_1_SQRT_2;
 use special_function::constants::FRAC_1_SQRT_2_PI;
+use special_function::constants::MIN_POSITIVE;
 use special_function::constants::SIXTEENTH_ROOT_DBL_EPSILON;
 use special_function::constants::SQRT_PI_OVER_2;
 use special_function::error_function::erfc_cody;
@@ -240,16 +241,16 @@ const THRESHOLDS: [f64; 12] = [
 fn asymptotic_expansion_of_scaled_normalised_black(h: f64, t: f64) -> f64
     ensures { λ r. ⌜ r ≡ asymptoticExpansionOfScaledNormalisedBlack h t ⌝ }
 {
-    let ratio = t / h;
-    let e = ratio * ratio;
+    let t_over_h = t / h;
+    let e = t_over_h * t_over_h;
     let r = mul_add2_sel(t, -t, h * h);
-    let ratio = h / r;
-    let q = ratio * ratio;
+    let h_over_r = h / r;
+    let q = h_over_r * h_over_r;
     let idx = position(-h - t + TAU + 0.5);
     (t / r) * omega(tail(idx, q, e), q, e)
 }
 
-// The first threshold above the value, or 12.
+// The index of the first threshold above the value, or 12.
 fn position(value: f64) -> usize
     ensures { λ r. ⌜ r ≡ position value ⌝ }
 {
@@ -276,7 +277,7 @@ fn horner(z: f64, coefficients: &[f64]) -> f64
     )
 }
 
-// One more coefficient of the tail, where the position asks for it.
+// One more coefficient of the tail, if the position is at most `last`.
 fn term(idx: usize, last: usize, omega: f64, q: f64, e: f64, coefficients: &[f64]) -> f64
     requires { ⌜ 2 ≤ length (now coefficients) ⌝ }
     ensures { λ r. ⌜ r ≡ term idx last omega q (horner e (now (coefficients .entry))) ⌝ }
@@ -427,7 +428,7 @@ fn y_prime(h: f64) -> f64
     }
 }
 
-// The source's rational function of order (7,7). Its first products are by h, the others by -h.
+// The source's quotient for h from -4 to -0.46875. Its first products are by h, the others by -h.
 fn y_prime_middle(h: f64) -> f64
     ensures { λ r. ⌜ r ≡ yPrimeMiddle h ⌝ }
 {
@@ -513,7 +514,7 @@ fn normalised_black_with_optimal_use_of_codys_functions_impl(
 
 const CODYS_THRESHOLD: f64 = 0.46875;
 
-// Twice the price, by where each of Cody's functions is taken.
+// Twice the price: q1 and q2 choose between erfc and erfcx, each on its side of the threshold.
 fn two_b(half_theta_x: f64, q1: f64, q2: f64, exp_neg_q: f64) -> f64
     ensures { λ r. ⌜ r ≡ twoB «half_theta_x» q1 q2 «exp_neg_q» ⌝ }
 {
@@ -547,9 +548,6 @@ pub fn normalised_vega(h: f64, t: f64) -> f64
 {
     FRAC_1_SQRT_2_PI * exp(-0.5 * mul_add2_sel(t, t, h * h))
 }
-
-// f64::MIN_POSITIVE
-const MIN_POSITIVE: f64 = 2.225_073_858_507_201_4E-308;
 
 pub fn negative_abs_log_moneyness(f: f64, k: f64) -> f64
     ensures { λ r. ⌜ r ≡ negativeAbsLogMoneyness f k ⌝ }

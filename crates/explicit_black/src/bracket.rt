@@ -6,14 +6,13 @@ use arithmetic::basic::is_finite;
 use arithmetic::exp::exp;
 use arithmetic::ln::ln;
 use special_function::constants::MAX;
+use special_function::constants::MIN_POSITIVE;
 ghost use mathlib.Core.Path.{_≡_};
 ghost use mathlib.Core.Bool.{true};
 ghost use Rattle.explicit_black.specs.Counted.{afford};
 ghost use Rattle.explicit_black.specs.Meanings.{bracketed, widening};
 ghost use Rattle.explicit_black.specs.Curves.{proper};
 ghost use Rattle.explicit_black.specs.Bracket.{bracketMidpoint, bracketIsTight, doubled, doubledFrom, widened, bracketQuantileFromBelow, halved, lowered, bracketQuantileFromAbove, narrowed, inside, chosen};
-
-pub(crate) const MIN_POSITIVE: f64 = 2.2250738585072014e-308;
 
 // 32 times f64::EPSILON
 pub(crate) const QUANTILE_BRACKET_TOLERANCE: f64 = 7.105427357601002e-15;

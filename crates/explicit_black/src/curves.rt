@@ -31,8 +31,7 @@ pub fn inverse_gaussian_survival(x: f64, mu: f64, allowed: u64) -> Evaluation
         return Evaluation::Spent;
     }
     let sqrt_x = sqrt(x);
-    // The same stable erfcx difference used for the normalised Black price equals this survival
-    // probability times exp(-1 / mu).
+    // the Black price at these figures is the survival probability times exp(-1 / mu)
     let black = normalised_black(-recip(mu), -sqrt_x / mu, recip(sqrt_x));
     Evaluation::Value(black / exp(-recip(mu)), allowed - 1)
 }

@@ -1,5 +1,4 @@
 // The quantile by Newton steps on the standardised variable x / mu.
-use crate::bracket::MIN_POSITIVE;
 use crate::counted::Evaluation;
 use crate::counted::Quantile;
 use crate::curves::inverse_gaussian_cdf;
@@ -14,6 +13,7 @@ use arithmetic::exp::exp;
 use arithmetic::ln::ln;
 use arithmetic::ln::ln_1p;
 use arithmetic::sqrt::sqrt;
+use special_function::constants::MIN_POSITIVE;
 use special_function::normal_distribution::inverse_norm_cdf;
 ghost use mathlib.Core.Path.{_≡_};
 ghost use Rattle.explicit_black.specs.Counted.{afford, have, tick, atOnce};
@@ -181,7 +181,7 @@ pub fn inverse_gaussian_mode_standardized(phi: f64) -> f64
 {
     let kappa = 1.5 * phi;
     if kappa <= LARGE_KAPPA_THRESHOLD {
-        // Rationalises sqrt(1 + kappa^2) - kappa before its two terms become nearly equal.
+        // the conjugate form: sqrt(1 + kappa^2) - kappa would lose digits
         return recip(sqrt(1.0 + kappa * kappa) + kappa);
     }
     let reciprocal = 0.5 / kappa;

@@ -1,6 +1,5 @@
 // The quantile of a probability: Newton steps, and where they give none a search in a bracket.
 use crate::bracket::Bracket;
-use crate::bracket::MIN_POSITIVE;
 use crate::bracket::QUANTILE_BRACKET_TOLERANCE;
 use crate::bracket::bracket_is_tight;
 use crate::bracket::bracket_midpoint;
@@ -19,6 +18,7 @@ use crate::newton::Newton;
 use crate::newton::inverse_gaussian_quantile_actuar;
 use arithmetic::basic::abs;
 use arithmetic::basic::max;
+use special_function::constants::MIN_POSITIVE;
 ghost use mathlib.Core.Path.{_≡_};
 ghost use mathlib.Core.Bool.{true};
 ghost use Rattle.explicit_black.specs.Counted.{afford, mapped};

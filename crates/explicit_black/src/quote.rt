@@ -9,6 +9,7 @@ use arithmetic::basic::max;
 use arithmetic::exp::exp;
 use arithmetic::sqrt::sqrt;
 use bs_option_price::negative_abs_log_moneyness;
+use special_function::constants::MIN_POSITIVE;
 use special_function::error_function::erfinv;
 ghost use mathlib.Core.Path.{_≡_};
 ghost use mathlib.Core.Bool.{_&&_};
@@ -21,8 +22,6 @@ ghost use Rattle.explicit_black.specs.Counted.{atOnce, mapped, afford};
 ghost use Rattle.explicit_black.specs.Meanings.{quantile};
 ghost use Rattle.explicit_black.specs.Quote.{impliedNormalisedVolatilityAtm, atTheMoney, totalAt, fromCallPrice, normalisedOutcome, impliedBlackVolatilityNormalised, firstRefusal, intrinsicValue, priceBound, normalisedTimeValue, valued, priced, inputOutcome, impliedBlackVolatilityInput, volatility};
 ghost use Rattle.explicit_black.specs.Replies.{replied, solved, Within, RepliesTo};
-
-const MIN_POSITIVE: f64 = 2.2250738585072014e-308;
 
 const SQRT_2: f64 = 1.4142135623730951;
 

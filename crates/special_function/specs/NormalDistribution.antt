@@ -23,7 +23,7 @@ normPdf x2 = fracSqrt2Pi ⊗ exp (neg half ⊗ x2)
 
 -- ---- the asymptotic expansion of `norm_cdf`
 
--- one turn of the source's loop, from what it has before to what it has after: `i` counts by four, `a` is the size of the last term
+-- one turn of the source's loop, from what it has before to what it has after: `i` counts by four from 4, `a` is the size of the last term; 3.0 and 4.0 by their bits
 unfoldable pub next : Float → Expansion → Expansion
 next zsqr s =
     let x = (s .i ⊖ bits 0x4008_0000_0000_0000) ⊘ zsqr in
@@ -205,7 +205,7 @@ denominatorV =
     ∷ bits 0x3FF0_0000_0000_0000  -- 1.0
     ∷ []
 
--- the z of probability p, for p up to 0.5 - uMax
+-- the z of probability p, for p up to 0.5 - uMax; the branches end at 2.05, 3.41, 6.7 and 12.9
 unfoldable pub inverseNormCdfForLowProbabilities : Float → Float
 inverseNormCdfForLowProbabilities p =
     let r = sqrt (neg (ln p)) in

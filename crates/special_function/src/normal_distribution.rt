@@ -20,7 +20,8 @@ pub fn norm_pdf(x2: f64) -> f64
     FRAC_SQRT_2_PI * exp(-0.5 * x2)
 }
 
-// Where the asymptotic expansion of `norm_cdf` stands: its sum, the factor of the next term, the next term's number, and the last term's size.
+// Where the asymptotic expansion of `norm_cdf` stands: its sum, the factor of the next term, that
+// term's number, and the last term's size.
 struct Expansion {
     pub sum: f64,
     pub g: f64,
@@ -118,7 +119,7 @@ pub fn inverse_norm_cdfm_half_for_midrange_probabilities(u: f64) -> f64
     u * (nested(s, &NUMERATOR) / nested(s, &DENOMINATOR))
 }
 
-// Branches I to V, by r: accuracies better than 7.6E-17, 9.4E-17, 9.1E-17, 9E-17 and 9.5E-17.
+// Numerators and denominators for r below 2.05, 3.41, 6.7, 12.9, and from there on.
 const NUMERATOR_I: [f64; 6] = [
     -13.054_072_340_494_093,
     -83.383_894_003_636_97,

@@ -3,7 +3,8 @@ ghost use mathlib.Core.Path.{_≡_};
 ghost use Rattle.special_function.specs.Polynomial.{evaluate, nested};
 use arithmetic::fused_multiply_add::mul_add2_sel;
 
-// The value, times z, plus the next coefficient, from the first to the last; with none, it is `start`.
+// The value, times z, plus the next coefficient, from the first to the last; with none, it is
+// `start`.
 pub fn evaluate(start: f64, coefficients: &[f64], z: f64) -> f64
     ensures { λ r. ⌜ r ≡ evaluate start (now (coefficients .entry)) z ⌝ }
 {

@@ -4,13 +4,13 @@ use mathlib.Core.Bool.{Bool, true, false, _&&_}
 use Prim.Native.Nat.{ℕ, zero, suc, _<_, _≤_}
 use native.Mathlib.Nat.{le-of-suc-le-suc, not-suc-le-zero}
 use native.Mathlib.Omega.{arith}
-use lib.Dec.{T}
+use lib.Dec.{T, eqb, eqb→eq}
 use lib.Ieee.{Float, ofBits, eq, mul}
 use lib.Ieee.Fits.{and-l, and-r}
 use lib.ListN.{length}
 use Rattle.arithmetic.specs.Operations.{_⊗_, nought, two}
 use Rattle.special_function.specs.Constants.{sixteenthRootDblEpsilon}
-use Rattle.bs_option_price.specs.Table.{patterns, right, allBelow, allRight}
+use Rattle.bs_option_price.specs.Table.{patterns, right, entry, nearestEntry, allBelow, allRight, allNearest}
 use Rattle.bs_option_price.specs.BsOptionPrice.{tau, normalisedBlack}
 
 -- one test, computed
@@ -34,6 +34,17 @@ pub coefficient-is-right : (k j : ℕ) → k < 17 → j ≤ k → T (right k j)
 unfolding allRight
 coefficient-is-right k j k<17 j≤k =
     at-each (suc k) (right k) (at-each 17 (λ i. allBelow (suc i) (right i)) all-right k k<17) j (omega arith)
+
+-- more than document 01 asks: each entry is the binary64 nearest to the exact coefficient
+all-nearest : T allNearest
+unfolding allNearest
+all-nearest = tt
+
+pub entry-is-nearest : (k j : ℕ) → k < 17 → j ≤ k → entry k j ≡ nearestEntry k j
+unfolding allNearest
+entry-is-nearest k j k<17 j≤k =
+    eqb→eq (entry k j) (nearestEntry k j)
+    (at-each (suc k) (λ i. eqb (entry k i) (nearestEntry k i)) (at-each 17 (λ n. allBelow (suc n) (λ i. eqb (entry n i) (nearestEntry n i))) all-nearest k k<17) j (omega arith))
 
 -- TAU's product is exact
 pub tau-is : two ⊗ sixteenthRootDblEpsilon ≡ tau

@@ -3,7 +3,7 @@ use Prim.Native.Nat.{ℕ, zero, suc, _+_, _-_, _*_, _/_, _%_, _^_}
 use mathlib.Core.Bool.{Bool, true, false, _&&_, Bool·beq}
 use mathlib.Core.List.{List, [], _∷_, map}
 use lib.Dec.{leb, eqb}
-use lib.Ieee.{Float, nan, inf, fin, up, down, ofBits}
+use lib.Ieee.{Float, nan, inf, fin, up, down, ofBits, binary64, round, toBits}
 use lib.ListN.{take, drop, getD}
 use Rattle.arithmetic.specs.Operations.{bits}
 
@@ -97,6 +97,15 @@ unfoldable pub right : ℕ → ℕ → Bool
 unfolding coefficient exactSize near
 right k j = near (eqb (k % 2) 1) (exactSize k j) (coefficient k j)
 
+-- the pattern of that coefficient, and the pattern of the binary64 nearest to the exact one
+unfoldable pub entry : ℕ → ℕ → ℕ
+unfolding patterns
+entry k j = getD patterns (k * (k + 1) / 2 + (k - j)) 0
+
+unfoldable pub nearestEntry : ℕ → ℕ → ℕ
+unfolding exactSize round toBits
+nearestEntry k j = toBits binary64 (round binary64 (eqb (k % 2) 1) (exactSize k j) 1)
+
 -- the test passes at each number below n
 unfoldable pub allBelow : ℕ → (ℕ → Bool) → Bool
 allBelow zero test = true
@@ -106,3 +115,8 @@ allBelow (suc n) test = test 0 && allBelow n (λ i. test (suc i))
 unfoldable pub allRight : Bool
 unfolding allBelow right
 allRight = allBelow 17 (λ k. allBelow (suc k) (right k))
+
+-- each entry is the nearest
+unfoldable pub allNearest : Bool
+unfolding allBelow entry nearestEntry
+allNearest = allBelow 17 (λ k. allBelow (suc k) (λ j. eqb (entry k j) (nearestEntry k j)))

@@ -110,9 +110,9 @@ mod side {
             #[cfg(layer2)]
             16 => normal_distribution::inverse_norm_cdf(a),
             #[cfg(layer3)]
-            17 => ours::bs_option_price::bs_option_price::normalised_black(a, b, c),
+            17 => ours::bs_option_price::normalised_black(a, b, c),
             #[cfg(layer3)]
-            18 => ours::bs_option_price::bs_option_price::negative_abs_log_moneyness(a, b),
+            18 => ours::bs_option_price::negative_abs_log_moneyness(a, b),
             #[cfg(layer4)]
             20 => evaluated(ours::explicit_black::curves::inverse_gaussian_cdf(a, b, 1)),
             #[cfg(layer4)]

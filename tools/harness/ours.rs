@@ -11,9 +11,9 @@ pub fn reply(function: u32, [a, b, c]: [f64; 3]) -> Option<Reply> {
         #[cfg(layer2)]
         10..=16 => Some(Reply::value(layer2(function, a))),
         #[cfg(layer3)]
-        17 => Some(Reply::value(ours::bs_option_price::bs_option_price::normalised_black(a, b, c))),
+        17 => Some(Reply::value(ours::bs_option_price::normalised_black(a, b, c))),
         #[cfg(layer3)]
-        18 => Some(Reply::value(ours::bs_option_price::bs_option_price::negative_abs_log_moneyness(a, b))),
+        18 => Some(Reply::value(ours::bs_option_price::negative_abs_log_moneyness(a, b))),
         #[cfg(quotes)]
         19 => Some(quotes::normalised(a, b)),
         #[cfg(layer4)]

@@ -1,6 +1,7 @@
 // Runs one function of the layers on given bits. Standard input holds records of 28 bytes: the
 // function's number and three doubles, as XDR writes them. Each record gives a line: the 16 digits
-// of the result's bits, or `nan`. A number that names no function ends the run.
+// of the result's bits, or `nan`; for the normalised entry a sheet's line without its number. A number
+// that names no function ends the run.
 mod record;
 mod text;
 
@@ -15,6 +16,11 @@ use arithmetic::mul_add::mul_add;
 use arithmetic::sqrt::sqrt;
 use bs_option_price::negative_abs_log_moneyness;
 use bs_option_price::normalised_black;
+use explicit_black::counted::Evaluation;
+use explicit_black::curves::inverse_gaussian_cdf;
+use explicit_black::curves::inverse_gaussian_survival;
+use explicit_black::quote::Reply;
+use explicit_black::quote::implied_black_volatility_normalised;
 use record::figure;
 use record::function;
 use special_function::error_function::erf_cody;
@@ -25,9 +31,11 @@ use special_function::normal_distribution::inverse_norm_cdf;
 use special_function::normal_distribution::norm_cdf;
 use special_function::normal_distribution::norm_pdf;
 use text::write_line;
+use text::write_reply;
 
 pub enum Outcome {
     Number(f64),
+    Quoted(Reply),
     Unknown,
 }
 
@@ -70,6 +78,24 @@ fn bs_option_price_of(number: u64, a: f64, b: f64, c: f64) -> Outcome {
     }
 }
 
+// The value of an evaluation that is allowed.
+fn allowed(evaluation: Evaluation) -> Outcome {
+    match evaluation {
+        Evaluation::Value(value, _) => Outcome::Number(value),
+        Evaluation::Spent => Outcome::Unknown,
+    }
+}
+
+// Those of layer four.
+fn explicit_black_of(number: u64, a: f64, b: f64) -> Outcome {
+    match number {
+        19 => Outcome::Quoted(implied_black_volatility_normalised(a, b)),
+        20 => allowed(inverse_gaussian_cdf(a, b, 1)),
+        21 => allowed(inverse_gaussian_survival(a, b, 1)),
+        _ => Outcome::Unknown,
+    }
+}
+
 // The result of a record's function.
 fn evaluate(input: &[u8; 28]) -> Outcome {
     let number = function(input);
@@ -82,7 +108,10 @@ fn evaluate(input: &[u8; 28]) -> Outcome {
     if number < 17 {
         return special_function_of(number, a);
     }
-    bs_option_price_of(number, a, b, c)
+    if number < 19 {
+        return bs_option_price_of(number, a, b, c);
+    }
+    explicit_black_of(number, a, b)
 }
 
 // Reads a record and writes its line; whether to go on.
@@ -93,6 +122,7 @@ fn turn() -> bool {
     }
     match evaluate(&input) {
         Outcome::Number(value) => write_line(value),
+        Outcome::Quoted(reply) => write_reply(reply),
         Outcome::Unknown => false,
     }
 }

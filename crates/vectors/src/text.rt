@@ -1,4 +1,7 @@
-// A number as a line of text.
+// Results as lines of text.
+use explicit_black::quote::Reply;
+use xdr_sheet::text::reply_line;
+
 const DIGITS: [u8; 16] = *b"0123456789abcdef";
 
 // The sixteen digits of bits, and the end of the line.
@@ -22,4 +25,15 @@ pub fn write_line(value: f64) -> bool {
     }
     let line = hexadecimal(f64::to_bits(value));
     io::write_all(libc::STDOUT_FILENO, &line)
+}
+
+// Writes a reply as a sheet prints it, but for the number of the quote, which is 1 with a space here.
+pub fn write_reply(reply: Reply) -> bool {
+    let line = reply_line(1, reply);
+    let bytes = line.bytes;
+    let length = line.length;
+    if length < 2 || 80 < length {
+        return false;
+    }
+    io::write_all(libc::STDOUT_FILENO, &bytes[2..length])
 }

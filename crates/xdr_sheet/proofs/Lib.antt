@@ -1,0 +1,3 @@
+mod Patterns
+mod Steps
+mod Texts

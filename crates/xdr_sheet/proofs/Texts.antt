@@ -1,0 +1,208 @@
+-- Lines that grow, and how many digits a number takes. Assumes nothing.
+use mathlib.Core.Path.{_≡_, refl, sym, ap, _∙_, subst}
+use mathlib.Core.List.{List, [], _∷_, _++_, map, append-assoc, append-nil}
+use Prim.Native.Nat.{ℕ, zero, suc, _+_, _-_, _*_, _/_, _^_, _≤_, _<_}
+use native.Mathlib.Numerals.{add-one}
+use native.Mathlib.Nat.{pow-suc, lt-of-lt-of-le, lt-of-not-le, not-le-of-lt, le-of-suc-le-suc, le-antisymm, le-trans, div-lt-iff-lt-mul, le-div-iff-mul-le, pow-le-pow-right}
+use native.Mathlib.Omega.{arith}
+use mathlib.Core.Bool.{Bool, true, false, not, cond}
+use borrow.Author.Tests.{lt-leb, le-leb}
+use lib.Dec.{T, ltb, ltb→lt, nltb→le, lit<, lit≤}
+use lib.Ieee.{Float, binary64, toBits}
+use lib.ListN.{length, take, drop, set, getD, length-append, length-map}
+use lib.Seq.{paste, take-suc-set, take-suc, take-all, length-take-le}
+use Rattle.explicit_black.specs.declared.quote.Reply.{Reply as Handed}
+use Rattle.explicit_black.specs.declared.quote.Reply.the-variants.{Answer, Refusal}
+use Rattle.explicit_black.specs.Replies.{replied}
+use Rattle.io.specs.Digits.{digits, Fewest}
+use Rattle.xdr_sheet.specs.declared.text.Line.{Line}
+use Rattle.xdr_sheet.specs.declared.text.Placed.{Placed}
+use Rattle.xdr_sheet.specs.declared.text.Placed.the-variants.{At, Full}
+use Rattle.xdr_sheet.specs.Text.{places, decimal, hexadecimal, answerFields, refusalFields, line}
+use Rattle.xdr_sheet.specs.Lines.{written, Extended, placed, appended}
+
+-- ---- lines
+pub same-line : (l : Line) → Extended l [] l
+same-line l = record { text = sym (append-nil (written l)); count = zero-more (l .length) }
+  where
+    zero-more : (n : ℕ) → n ≡ n + 0
+    zero-more n = omega arith
+
+infixl 20 _then_
+pub _then_ : {a b c : Line} {x y : List ℕ} → Extended a x b → Extended b y c → Extended a (x ++ y) c
+_then_ {a} {b} {c} {x} {y} h g = record {
+  text = g .text ∙ ap (λ (z : List ℕ). z ++ y) (h .text) ∙ append-assoc (written a) x y;
+  count = sum (length (x ++ y)) (length x) (length y) (length-append x y) (h .count) (g .count);
+}
+  where
+    sum : (n p q : ℕ) → n ≡ p + q → b .length ≡ a .length + p → c .length ≡ b .length + q → c .length ≡ a .length + n
+    sum n p q e f k = omega arith
+
+-- all that was written after nothing
+pub from-empty : {a b : Line} {x : List ℕ} → written a ≡ [] → Extended a x b → written b ≡ x
+from-empty {x = x} e h = h .text ∙ ap (λ (z : List ℕ). z ++ x) e
+
+-- the next element of a list of bytes, and all of them
+pub turn : (a b c : Line) (s : List ℕ) (i : ℕ) → i < length s → Extended a (take i s) b → Extended b (getD s i 0 ∷ []) c → Extended a (take (i + 1) s) c
+turn a b c s i h e f = subst (λ (t : List ℕ). Extended a t c) (sym (ap (λ (k : ℕ). take k s) (add-one i) ∙ take-suc s i 0 h)) (e then f)
+
+pub whole : (a b : Line) (s : List ℕ) (i : ℕ) → length s ≤ i → Extended a (take i s) b → Extended a s b
+whole a b s i h e = subst (λ (t : List ℕ). Extended a t b) (take-all i s h) e
+
+-- an array of 80 bytes, read as a list
+eighty : (l : List ℕ) → length (map (λ (v : ℕ). v) l) ≡ 80 → length l ≡ 80
+eighty l e = sym (length-map l (λ (v : ℕ). v)) ∙ e
+
+pub room : (l : List ℕ) {n : ℕ} → length (map (λ (v : ℕ). v) l) ≡ 80 → n < 80 → n < length l
+room l e h = omega (arith, eighty l e)
+
+pub written-below : (l : Line) → length (map (λ (v : ℕ). v) (l .bytes)) ≡ 80 → l .length < 80 → l .length ≡ length (written l)
+written-below l e h = sym (length-take-le (l .length) (l .bytes) (omega (arith, eighty (l .bytes) e)))
+
+pub written-above : (l : Line) → length (map (λ (v : ℕ). v) (l .bytes)) ≡ 80 → 80 ≤ l .length → 80 ≡ length (written l)
+written-above l e h = sym (ap length (take-all (l .length) (l .bytes) (omega (arith, eighty (l .bytes) e))) ∙ eighty (l .bytes) e)
+
+-- as many bytes as were counted
+pub take-written : (l : Line) → take (length (written l)) (l .bytes) ≡ written l
+take-written l = go (l .length) (l .bytes)
+  where
+    go : (n : ℕ) (s : List ℕ) → take (length (take n s)) s ≡ take n s
+    go zero s = refl
+    go (suc n) [] = refl
+    go (suc n) (x ∷ s) = ap (λ (r : List ℕ). x ∷ r) (go n s)
+
+-- one byte more
+pub one-more : (l r : Line) (b : ℕ) → l .length < length (l .bytes) → r .bytes ≡ set (l .bytes) (l .length) b → r .length ≡ l .length + 1 → Extended l (b ∷ []) r
+one-more l r b h e n = record {
+  text = ap (λ (k : ℕ). take k (r .bytes)) (n ∙ add-one (l .length)) ∙ ap (take (suc (l .length))) e ∙ take-suc-set (l .bytes) (l .length) b h;
+  count = n;
+}
+
+-- ---- the line of a reply
+pub answer-line : (number p q count : ℕ) {total volatility : Float} {a b r : Line} {reply : Handed}
+    → written a ≡ [] → Extended a (decimal number) b → Extended b (answerFields p q count) r
+    → reply ≡ Answer total volatility count → p ≡ toBits binary64 total → q ≡ toBits binary64 volatility → written r ≡ line number (replied reply)
+unfolding line
+answer-line number p q count e h g i j k = from-empty e (h then g) ∙ rw (i, j, k)
+
+pub refusal-line : (number reason count : ℕ) {a b r : Line} {reply : Handed}
+    → written a ≡ [] → Extended a (decimal number) b → Extended b (refusalFields reason count) r → reply ≡ Refusal reason count → written r ≡ line number (replied reply)
+unfolding line
+refusal-line number reason count e h g i = from-empty e (h then g) ∙ rw i
+
+-- ---- a text in a buffer
+abbrev Appends : List ℕ → ℕ → List ℕ → List ℕ → Placed → Type 0
+Appends text at before after r = (r ≡ placed text at before) × (after ≡ appended text at before)
+
+pub no-room : (text : List ℕ) (at : ℕ) (before : List ℕ) → length before < at + length text → Appends text at before before Full
+unfolding placed appended
+no-room text at before h = rw (lt-leb (at + length text) (length before) h) (refl, refl)
+
+pub with-room : (l : Line) (n at : ℕ) (before after : List ℕ) → n ≡ length (written l) → at + n ≤ length before → after ≡ paste before at (l .bytes) n → Appends (written l) at before after (At (at + n))
+unfolding placed appended
+with-room l n at before after e h p =
+    let g : at + length (written l) ≤ length before = omega arith in
+    rw (le-leb (at + length (written l)) (length before) g) (
+      ap (λ (k : ℕ). At (at + k)) e,
+      p ∙ ap (paste before at (l .bytes)) e ∙ ap (λ (t : List ℕ). take at before ++ t ++ drop (at + length (written l)) before) (take-written l),
+    )
+
+-- ---- how many digits
+less-one : (k : ℕ) → suc k - 1 ≡ k
+less-one k = omega arith
+
+few : (n k : ℕ) → n < 10 → Fewest 10 1 n k → 1 ≡ k
+few n zero h f = absurd (no (f .0))
+  where
+    no : 1 ≤ 0 → ⊥
+    no g = omega arith
+few n (suc zero) h f = refl
+few n (suc (suc k)) h f = absurd (no (pow-pos' k) (subst (λ (x : ℕ). 10 ^ x ≤ n) (less-one (suc k)) (f .2 (more k))))
+  where
+    more : (k : ℕ) → 1 < suc (suc k)
+    more k = omega arith
+
+    pow-pos' : (k : ℕ) → 10 ≤ 10 ^ suc k
+    pow-pos' zero = lit≤ tt
+    pow-pos' (suc k) = le-trans (pow-pos' k) (le-trans (grow (10 ^ suc k)) (le-of (sym (pow-suc 10 (suc k)))))
+      where
+        grow : (x : ℕ) → x ≤ x * 10
+        grow x = omega arith
+
+        le-of : {x y : ℕ} → x ≡ y → x ≤ y
+        le-of e = omega arith
+
+    no : 10 ≤ 10 ^ suc k → 10 ^ suc k ≤ n → ⊥
+    no a b = omega arith
+
+-- one digit less of the number
+tenth : (n k : ℕ) → 10 ≤ n → Fewest 10 1 n (suc (suc k)) → Fewest 10 1 (n / 10) (suc k)
+tenth n k h f = (
+  least k,
+  div-lt-iff-lt-mul (lit< tt) .1 (subst (λ (x : ℕ). n < x) (pow-suc 10 (suc k)) (f .1)),
+  λ g. le-div-iff-mul-le (lit< tt) .1 (subst (λ (x : ℕ). x ≤ n) (same k g) (f .2 (more k))),
+)
+  where
+    least : (k : ℕ) → 1 ≤ suc k
+    least k = omega arith
+
+    more : (k : ℕ) → 1 < suc (suc k)
+    more k = omega arith
+
+    same : (k : ℕ) → 1 < suc k → 10 ^ (suc (suc k) - 1) ≡ 10 ^ (suc k - 1) * 10
+    same (suc k) g = ap (λ (x : ℕ). 10 ^ x) (less-one (suc (suc k))) ∙ pow-suc 10 (suc k) ∙ ap (λ (x : ℕ). 10 ^ x * 10) (sym (less-one (suc k)))
+    same zero g = absurd (no g)
+      where
+        no : 1 < 1 → ⊥
+        no g = omega arith
+
+pub places-is : (f n k : ℕ) → n < 10 ^ suc f → Fewest 10 1 n k → places f n ≡ k
+unfolding places
+places-is zero n k h f = few n k h f
+places-is (suc f) n k h g = go (ltb n 10) (ltb→lt n 10) (nltb→le n 10)
+    (λ j. places-is f (n / 10) j (div-lt-iff-lt-mul (lit< tt) .1 (subst (λ (x : ℕ). n < x) (pow-suc 10 (suc f)) h)))
+  where
+    many : (k : ℕ) → 10 ≤ n → Fewest 10 1 n k → ((j : ℕ) → Fewest 10 1 (n / 10) j → places f (n / 10) ≡ j) → suc (places f (n / 10)) ≡ k
+    many zero l g r = absurd (no (g .0))
+      where
+        no : 1 ≤ 0 → ⊥
+        no a = omega arith
+    many (suc zero) l g r = absurd (no l (g .1))
+      where
+        no : 10 ≤ n → n < 10 → ⊥
+        no a b = omega arith
+    many (suc (suc k)) l g r = ap suc (r (suc k) (tenth n k l g))
+
+    go : (b : Bool) → (T b → n < 10) → (T (not b) → 10 ≤ n) → ((j : ℕ) → Fewest 10 1 (n / 10) j → places f (n / 10) ≡ j) → cond b 1 (suc (places f (n / 10))) ≡ k
+    go true a b r = few n k (a tt) g
+    go false a b r = many k (b tt) g r
+
+few-places : (f n : ℕ) → places f n ≤ suc f
+unfolding places
+few-places zero n = lit≤ tt
+few-places (suc f) n = go (ltb n 10) (few-places f (n / 10))
+  where
+    go : (b : Bool) → places f (n / 10) ≤ suc f → cond b 1 (suc (places f (n / 10))) ≤ suc (suc f)
+    go true h = omega arith
+    go false h = omega arith
+
+pub places-le : (n k : ℕ) → n < 2 ^ 64 → Fewest 10 1 n k → k ≤ 20
+places-le n k h f = subst (λ (x : ℕ). x ≤ 20) (places-is 19 n k (lt-of-lt-of-le h (lit≤ tt)) f) (few-places 19 n)
+
+-- what `io::decimal` and `io::hex` put into their digits
+pub decimal-is : (n k : ℕ) → n < 2 ^ 64 → Fewest 10 1 n k → digits 10 k n ≡ decimal n
+unfolding decimal
+decimal-is n k h f = ap (λ (x : ℕ). digits 10 x n) (sym (places-is 19 n k (lt-of-lt-of-le h (lit≤ tt)) f))
+
+pub sixteen : (n k : ℕ) → n < 2 ^ 64 → Fewest 16 16 n k → k ≡ 16
+sixteen n k h f = le-antisymm (le-of-suc-le-suc (lt-of-not-le (λ (g : 17 ≤ k). not-le-of-lt h (le-trans (pow-le k g) (f .2 g))))) (f .0)
+  where
+    pow-le : (k : ℕ) → 17 ≤ k → 2 ^ 64 ≤ 16 ^ (k - 1)
+    pow-le k g = le-trans (lit≤ {m = 2 ^ 64} {n = 16 ^ 16} tt) (pow-le-pow-right (lit< tt) (less k g))
+      where
+        less : (k : ℕ) → 17 ≤ k → 16 ≤ k - 1
+        less k g = omega arith
+
+pub hexadecimal-is : (n k : ℕ) → n < 2 ^ 64 → Fewest 16 16 n k → digits 16 k n ≡ hexadecimal n
+unfolding hexadecimal
+hexadecimal-is n k h f = ap (λ (x : ℕ). digits 16 x n) (sixteen n k h f)

@@ -1,0 +1,43 @@
+-- A u64 has 20 digits at most. Assumes nothing.
+use mathlib.Core.Path.{_∙_, subst}
+use mathlib.Core.List.{List}
+use Prim.Native.Nat.{ℕ, _≤_}
+use native.Mathlib.Omega.{arith}
+use Rattle.xdr_sheet.specs.Lines.{Extended}
+use Rattle.xdr_sheet.proofs.Texts.{decimal-is, places-le}
+use borrow.Author.Needs.{needs}
+use Rattle.xdr_sheet.proofs.text.Line.decimal.Statement.{statement}
+use Rattle.xdr_sheet.proofs.text.Line.decimal.Tie as tie
+
+few : (c : tie.After-decimal) → c .decimal .result ≤ 20
+few c = places-le (c .before .before .args .n) (c .decimal .result) (search needs) (c .decimal .ensures .1 .0)
+
+decimal-requires : tie.Need-decimal-requires
+decimal-requires c κs = search needs
+
+array-share-prefix-digits : tie.Need-array-share-prefix-digits
+array-share-prefix-digits c = search needs
+
+slice-aggregate-bytes : tie.Need-slice-aggregate-bytes
+slice-aggregate-bytes c = search needs
+
+bytes-requires : tie.Need-bytes-requires
+bytes-requires c κs = omega (arith, few (c .before))
+
+returns : tie.Need-returns
+returns c =
+    let d = c .before .before .decimal in
+    let a = c .before .before .before .before .args in (
+      subst (λ (t : List ℕ). Extended (a .self) t (c .bytes .result)) (d .ensures .1 .1 ∙ decimal-is (a .n) (d .result) (search needs) (d .ensures .1 .0)) (c .bytes .ensures),
+      omega (arith, few (c .before .before), c .bytes .ensures .count),
+    )
+
+pub decimal-spec : {M : Type 1} → statement M
+decimal-spec =
+    tie.close
+    (tie.spec
+    decimal-requires
+    array-share-prefix-digits
+    slice-aggregate-bytes
+    bytes-requires
+    returns)

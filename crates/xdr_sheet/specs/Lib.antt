@@ -1,0 +1,9 @@
+pub mod Xdr
+pub mod Text
+pub mod Sheet
+pub mod Replies
+pub mod Lines
+pub mod Printing
+pub mod LawsSheet
+pub mod LawsLines
+pub mod LawsPrinting

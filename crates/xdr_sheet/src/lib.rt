@@ -1,0 +1,5 @@
+// A sheet of quotes in XDR, and the text of its answers.
+pub mod printing;
+pub mod sheet;
+pub mod text;
+pub mod xdr;

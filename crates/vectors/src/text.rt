@@ -27,13 +27,19 @@ pub fn write_line(value: f64) -> bool {
     io::write_all(libc::STDOUT_FILENO, &line)
 }
 
-// Writes a reply as a sheet prints it, but for the number of the quote, which is 1 with a space here.
+// Writes a part of s; whether there is such a part and that was done.
+fn write_part(s: &[u8], from: usize, to: usize) -> bool {
+    if from <= to {
+        if to <= s.len() {
+            return io::write_all(libc::STDOUT_FILENO, &s[from..to]);
+        }
+    }
+    false
+}
+
+// Writes a reply as a sheet prints it, but for the number of the quote: here 1, and a space.
 pub fn write_reply(reply: Reply) -> bool {
     let line = reply_line(1, reply);
     let bytes = line.bytes;
-    let length = line.length;
-    if length < 2 || 80 < length {
-        return false;
-    }
-    io::write_all(libc::STDOUT_FILENO, &bytes[2..length])
+    write_part(&bytes, 2, line.length)
 }

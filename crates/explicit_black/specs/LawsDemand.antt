@@ -6,7 +6,7 @@ use native.Mathlib.Nat.{zero-mul, mul-one, mul-assoc, mul-right-comm, mul-pos, l
 use native.Mathlib.Omega.{arith}
 use mathlib.Core.Bool.{Bool, true, false, not, _||_, Bool·beq, cond}
 use lib.IntN.{ℤ, pos, negsuc}
-use lib.Dec.{T, eqb, ltb, eqb→eq, ltb→lt, lt→ltb}
+use lib.Dec.{T, eqb, ltb, eqb→eq, ltb→lt, lt→ltb, lit≤}
 use lib.Ieee.{Float, nan, inf, fin, binary64, up, down, fits, le, lt, eq, below, level, ofBits}
 use lib.Ieee.Fits.{sub-fits, and-l}
 use lib.Ieee.Bits.{is-true, ofBits-fits}
@@ -297,3 +297,43 @@ module _ (n : ℤ) (p f k t p' f' k' t' : ℕ) (h : Fair (bits p) (bits f) (bits
         compared-input 1 (bits p') (bits f') (bits k') (bits t') ∙ o .0 ∙ sym (compared-input 0 (bits p) (bits f) (bits k) (bits t)),
         compared-input 0 (bits p') (bits f') (bits k') (bits t') ∙ o .1 ∙ sym (compared-input 1 (bits p) (bits f) (bits k) (bits t)),
       )
+
+-- ---- document 01's call 0 1 100 120 1 and put 1 4 480 400 1 agree: the hypotheses are met
+fair-call : Fair (bits 0x3FF0_0000_0000_0000) (bits 0x4059_0000_0000_0000) (bits 0x405E_0000_0000_0000)
+unfolding ofBits le lt eq
+fair-call = record {
+  price-finite = tt;
+  price-not-negative = tt;
+  forward-finite = tt;
+  forward-normal = tt;
+  strike-finite = tt;
+  strike-normal = tt;
+  forward-not-over = lit≤ tt;
+  strike-not-over = lit≤ tt;
+}
+
+fair-put : Fair (bits 0x4010_0000_0000_0000) (bits 0x407E_0000_0000_0000) (bits 0x4079_0000_0000_0000)
+unfolding ofBits le lt eq
+fair-put = record {
+  price-finite = tt;
+  price-not-negative = tt;
+  forward-finite = tt;
+  forward-normal = tt;
+  strike-finite = tt;
+  strike-normal = tt;
+  forward-not-over = lit≤ tt;
+  strike-not-over = lit≤ tt;
+}
+
+four-times : (x y : ℕ) → T (finite (bits x)) → T (finite (bits y)) → num (bits y) * den (bits x) * 1 ≡ num (bits x) * den (bits y) * 4 → minus? (bits y) ≡ minus? (bits x) → Exactly (pos 1) (bits x) (bits y)
+four-times x y p q e s = record { finite-x = p; finite-y = q; fraction = e; signs = inr s }
+
+pub call-and-put-agree : input 1 0x4010_0000_0000_0000 0x407E_0000_0000_0000 0x4079_0000_0000_0000 0x3FF0_0000_0000_0000 ≡ input 0 0x3FF0_0000_0000_0000 0x4059_0000_0000_0000 0x405E_0000_0000_0000 0x3FF0_0000_0000_0000
+unfolding ofBits lt
+call-and-put-agree =
+    other-side (pos 1) 0x3FF0_0000_0000_0000 0x4059_0000_0000_0000 0x405E_0000_0000_0000 0x3FF0_0000_0000_0000 0x4010_0000_0000_0000 0x407E_0000_0000_0000 0x4079_0000_0000_0000 0x3FF0_0000_0000_0000 fair-call fair-put
+    (inr (tt, tt, tt, tt))
+    (four-times 0x3FF0_0000_0000_0000 0x4010_0000_0000_0000 tt tt refl refl)
+    (four-times 0x405E_0000_0000_0000 0x407E_0000_0000_0000 tt tt refl refl)
+    (four-times 0x4059_0000_0000_0000 0x4079_0000_0000_0000 tt tt refl refl)
+    .0

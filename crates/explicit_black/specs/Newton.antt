@@ -51,7 +51,7 @@ seed probability logProbability mu =
     (cond (lt (bits 0xBEE4_F8B5_88E3_68F1) logProbability) (max (inverseGaussianQuantileInitialGuess probability mu ⊘ mu) mode)  -- -1.0e-5
     mode)
 
--- the seed, or the mode where that is not finite and above 0
+-- the seed; where that is not finite and above 0 the mode, or the smallest normal value if that is larger
 unfoldable pub start : Float → Float → Float → Float
 start probability logProbability mu =
     let x = seed probability logProbability mu in

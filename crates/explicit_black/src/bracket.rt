@@ -22,7 +22,8 @@ pub struct Bracket {
     pub upper: f64,
 }
 
-// What a value at the new bound leads to: the bracket holds the root, or a wider one is to be tried.
+// What a value at the new bound leads to: the search for a bracket stops, or a wider one is to be
+// tried.
 pub enum Widening {
     Reached(Bracket),
     Wider(Bracket),

@@ -10,13 +10,13 @@ pub enum Evaluation {
     Spent,
 }
 
-// A bracket that holds the root.
+// The bracket where a search for one stopped.
 pub enum Bracketed {
     Found(Bracket, u64),
     Spent,
 }
 
-// A bracket that holds the root, or none, since the root is above every finite value.
+// The same, or none where the largest finite value was passed.
 pub enum Reach {
     Found(Bracket, u64),
     None(u64),

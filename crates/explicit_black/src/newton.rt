@@ -58,7 +58,8 @@ fn seed(probability: f64, log_probability: f64, mu: f64) -> f64
     mode
 }
 
-// The seed, or the mode where that is not finite and above 0.
+// The seed; where that is not finite and above 0 the mode, or the smallest normal value if that is
+// larger.
 fn start(probability: f64, log_probability: f64, mu: f64) -> f64
     ensures { λ r. ⌜ r ≡ start probability «log_probability» mu ⌝ }
 {

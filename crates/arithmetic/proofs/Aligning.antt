@@ -9,12 +9,12 @@ use lib.Dec.{lit≤, lit<}
 use lib.Pow.{pow-pos, pow-mono, shl-lt, split}
 use lib.Ieee.{binary64, sum}
 use Rattle.arithmetic.specs.declared.pair.Pair.{Pair}
-use Rattle.arithmetic.specs.declared.mul_add.Terms.{Terms}
 use Rattle.arithmetic.specs.Words.{val, jammed}
 use Rattle.arithmetic.specs.declared.mul_add.Parts.{Parts}
 use Rattle.arithmetic.specs.Steps.{Exponent, Operands, Aligned}
 use Rattle.arithmetic.specs.Laws.Numbers.{lt-or-le, pow-split}
 use Rattle.arithmetic.proofs.Jamming.{jam-first, jam-second}
+use Rattle.arithmetic.proofs.Pairs.{flat}
 
 -- ---- the product's exponent
 pub exponent-zero : (u v : Parts) → u .m * v .m ≡ 0 → Exponent u v 0
@@ -99,9 +99,6 @@ shifted n d x e h = ap (λ (y : ℕ). n * y) (sym (pow-split d x e h)) ∙ sym (
 -- n * 2 ^ d, for an n of j digits and a d of at most k
 pub shift-lt : (n j d k : ℕ) → n < 2 ^ j → d ≤ k → n * 2 ^ d < 2 ^ (j + k)
 shift-lt n j d k h l = lt-of-lt-of-le (shl-lt j d h) (pow-mono {j = j + k} (omega arith))
-
-pub flat : (y : ℕ) → 0 * 18446744073709551616 + y ≡ y
-flat y = omega arith
 
 -- ---- the four ways to one scale
 module _ (p : Pair) (ep m em : ℕ) (o : Operands (val p) ep m em) where

@@ -79,28 +79,34 @@ pub record Known (s : Bool) (w : Float) : Type 0 where
   pub sign : minus? w ≡ s
   pub size : num w / den w ≤ most s
 
+-- the product by 1 / ln 2 of what is at most `bound` in size
+pub product-at-most : (x bound r : Float) → T (finite x) → num x * den bound ≤ num bound * den x → T (fits binary64 r) → T (finite r) → num bound * num perLn2 * den r ≤ num r * (den bound * den perLn2) → AtMost (minus? x) r (x ⊗ perLn2)
+product-at-most x bound r p h F q g =
+    subst (λ (z : Float). AtMost (minus? x) r z) (sym (times-fraction x perLn2 (num perLn2) (den perLn2) p (per-value .1) (den-pos perLn2) (per-value .0)))
+    (round-at-most binary64 (minus? x) (num x * num perLn2) (den x * den perLn2) r (mul-pos (den-pos x) (den-pos perLn2)) F q
+    (through (num x * num perLn2) (num bound * num perLn2) (num r) (den x * den perLn2) (den bound * den perLn2) (den r) (mul-pos (den-pos bound) (den-pos perLn2))
+    (le-trans (le-of-eq (mul-mul-mul-comm (num x) (num perLn2) (den bound) (den perLn2)))
+    (le-trans (mul-le-mul-right (num perLn2 * den perLn2) h) (le-of-eq (mul-mul-mul-comm (num bound) (den x) (num perLn2) (den perLn2)))))
+    g))
+
+-- and a half away from zero
+pub beyond-round : (s : Bool) (x : Float) → T (finite (x ⊗ perLn2)) → minus? (x ⊗ perLn2) ≡ s → beyond s x ≡ round binary64 s (num (x ⊗ perLn2) * 2 + 1 * 1 * den (x ⊗ perLn2)) (den (x ⊗ perLn2) * 2)
+beyond-round s x p e =
+    let w = x ⊗ perLn2 in
+    beyond-is s x
+    ∙ add-is binary64 w (fin s 1 (negsuc 0)) p tt
+    ∙ ap (λ (t : Bool). sum binary64 t (num w * 2) s (1 * 1 * den w) (den w * 2)) e
+    ∙ sum-alike s (num w * 2) (1 * 1 * den w) (den w * 2)
+
 module _ (x : Float) (p : T (finite x)) (h : num x * den (limit (minus? x)) ≤ num (limit (minus? x)) * den x) where
   abbrev s : Bool
   s = minus? x
 
-  product-at-most : AtMost s (first s) (x ⊗ perLn2)
-  product-at-most =
-      subst (λ (z : Float). AtMost s (first s) z) (sym (times-fraction x perLn2 (num perLn2) (den perLn2) p (per-value .1) (den-pos perLn2) (per-value .0)))
-      (round-at-most binary64 s (num x * num perLn2) (den x * den perLn2) (first s) (mul-pos (den-pos x) (den-pos perLn2)) (both-fit s .0) tt
-      (through (num x * num perLn2) (num (limit s) * num perLn2) (num (first s)) (den x * den perLn2) (den (limit s) * den perLn2) (den (first s)) (mul-pos (den-pos (limit s)) (den-pos perLn2))
-      (le-trans (le-of-eq (mul-mul-mul-comm (num x) (num perLn2) (den (limit s)) (den perLn2)))
-      (le-trans (mul-le-mul-right (num perLn2 * den perLn2) h) (le-of-eq (mul-mul-mul-comm (num (limit s)) (den x) (num perLn2) (den perLn2)))))
-      (limit-times s)))
-
   beyond-at-most : AtMost s (second s) (beyond s x)
   beyond-at-most =
       let w = x ⊗ perLn2 in
-      let b : AtMost s (first s) w = product-at-most in
-      subst (λ (z : Float). AtMost s (second s) z)
-      (sym (beyond-is s x
-      ∙ add-is binary64 w (fin s 1 (negsuc 0)) (b .is-finite) tt
-      ∙ ap (λ (t : Bool). sum binary64 t (num w * 2) s (1 * 1 * den w) (den w * 2)) (b .sign)
-      ∙ sum-alike s (num w * 2) (1 * 1 * den w) (den w * 2)))
+      let b : AtMost s (first s) w = product-at-most x (limit s) (first s) p h (both-fit s .0) tt (limit-times s) in
+      subst (λ (z : Float). AtMost s (second s) z) (sym (beyond-round s x (b .is-finite) (b .sign)))
       (round-at-most binary64 s (num w * 2 + 1 * 1 * den w) (den w * 2) (second s) (mul-pos (den-pos w) (lit≤ tt)) (both-fit s .1) tt (half-more (most s) (num w) (den w) (b .bound)))
     where
       half-more : (k n d : ℕ) → n * 4 ≤ (4 * k + 1) * 1 * d → (n * 2 + 1 * 1 * d) * 4 ≤ (4 * k + 3) * 1 * (d * 2)
@@ -134,7 +140,7 @@ trunc-is nan h = absurd h
 trunc-is (inf s) h = absurd h
 trunc-is (fin s m e) h = refl
 
-part-is : (w : Float) → T (finite w) → wholePart w ≡ min (num w / den w) (2 ^ 52)
+pub part-is : (w : Float) → T (finite w) → wholePart w ≡ min (num w / den w) (2 ^ 52)
 part-is nan h = absurd h
 part-is (inf s) h = absurd h
 part-is (fin s m e) h = refl
@@ -180,7 +186,7 @@ signed-zero : toSigned 63 (round binary64 true 0 1) ≡ pos 0
 unfolding toSigned round
 signed-zero = refl
 
-up-is : (n : ℕ) → ofInt binary64 (pos n) ≡ round binary64 false n 1
+pub up-is : (n : ℕ) → ofInt binary64 (pos n) ≡ round binary64 false n 1
 unfolding ofInt
 up-is n = refl
 

@@ -1,10 +1,11 @@
 -- From the whole root s of w to the root of w * 2 ^ 52, by one division: Karatsuba's square root, on plain numbers. 67108864 is 2 ^ 26. Assumes nothing.
-use mathlib.Core.Path.{_≡_, sym, ap, _∙_}
+use mathlib.Core.Path.{_≡_, sym, ap, _∙_, subst}
 use Prim.Native.Nat.{ℕ, _+_, _-_, _*_, _/_, _%_, _^_, _≤_, _<_}
 use native.Mathlib.Nat.{lt-of-not-le, le-of-mul-le-mul-right, mul-le-mul, mul-le-mul-right, div-add-mod', mod-lt}
 use native.Mathlib.Omega.{arith}
 use Rattle.arithmetic.specs.Sqrt.{closestRoot}
 use Rattle.arithmetic.specs.Laws.WholeRoots.{IsRoot, Nearest, nearest-root}
+use Rattle.arithmetic.specs.Laws.SqrtNearest.{near-low, near-high}
 
 -- what is known of w, its whole root s, and the quotient d and the remainder u of (w - s²) * 2 ^ 26 by 2s
 pub record Facts (w s d u : ℕ) : Type 0 where
@@ -72,13 +73,31 @@ up w s d u f h = up-near (w * 4503599627370496) (s * 67108864 + d) (d * d) (u * 
 pub stay : (w s d u : ℕ) → Facts w s d u → u * 67108864 ≤ s * 67108864 + d + d * d → Nearest (w * 4503599627370496) (s * 67108864 + d)
 stay w s d u f h = stay-near (w * 4503599627370496) (s * 67108864 + d) (d * d) (u * 67108864) (identity w s d u f) h (omega arith)
 
+-- ---- what `is_closest` tests, with q = s * 2 ^ 26 + d: w * 2 ^ 52 + q + d² = q² + a
+pub tested : (w q : ℕ)
+    → let s = q / 67108864 in
+    let d = q % 67108864 in
+    let n = (w - s * s) * 67108864 + s in
+    let a = (n - 2 * s * d) * 67108864 + d in
+    s * s ≤ w → 2 * s * d ≤ n → d * d < a → a ≤ d * d + 2 * q → Nearest (w * 4503599627370496) q
+tested w q h k lo hi = let s = q / 67108864 in let d = q % 67108864 in go s d (w - s * s) (omega arith) (omega arith) ((w - s * s) * 67108864 + s - 2 * s * d) (omega arith) lo hi
+  where
+    sum : (s d e v : ℕ) → w ≡ s * s + e → q ≡ s * 67108864 + d → v + 2 * s * d ≡ e * 67108864 + s → w * 4503599627370496 + q + d * d ≡ (s * 67108864 + d) * (s * 67108864 + d) + (v * 67108864 + d)
+    sum s d e v a b c = omega arith
+
+    ends : (Q x a : ℕ) → w * 4503599627370496 + q + x ≡ Q + a → x < a → a ≤ x + 2 * q → (Q < w * 4503599627370496 + q) × (w * 4503599627370496 ≤ Q + q)
+    ends Q x a e l u = (omega arith, omega arith)
+
+    go : (s d e : ℕ) → w ≡ s * s + e → q ≡ s * 67108864 + d → (v : ℕ) → v + 2 * s * d ≡ e * 67108864 + s → d * d < v * 67108864 + d → v * 67108864 + d ≤ d * d + 2 * q → Nearest (w * 4503599627370496) q
+    go s d e a b v c l u = subst (λ (z : ℕ). (z * z < w * 4503599627370496 + q) × (w * 4503599627370496 ≤ z * z + q)) (sym b) (ends ((s * 67108864 + d) * (s * 67108864 + d)) (d * d) (v * 67108864 + d) (sum s d e v a b c) l u)
+
 -- what `closest` ensures
 abbrev pub Closest : ℕ → ℕ → Type 0
 Closest w r = (r ≡ closestRoot (w * 2 ^ 52) 0) × (2 ^ 52 ≤ r) × (r < 2 ^ 53)
 
-pub closest-of : (w r : ℕ) → 2 ^ 52 ≤ w → w + 1 < 2 ^ 54 → 2 ^ 52 ≤ r → Nearest (w * 4503599627370496) r → Closest w r
-closest-of w r W hi lo h = (
+pub closest-of : (w r : ℕ) → 2 ^ 52 ≤ w → w + 1 < 2 ^ 54 → Nearest (w * 4503599627370496) r → Closest w r
+closest-of w r lo hi h = (
   sym (nearest-root (w * 4503599627370496) r (omega arith) (omega arith) h),
-  lo,
-  lt-of-not-le (λ (g : 9007199254740992 ≤ r). let a = mul-le-mul-right r g in omega arith),
+  near-low (w * 4503599627370496) r (omega arith) (h .1),
+  near-high (w * 4503599627370496) r (omega arith) (h .0),
 )

@@ -13,3 +13,5 @@ mod SqrtPaths
 mod Truncating
 mod Exponential
 mod LnPaths
+mod ZeroSign
+mod ExpOrdinary

@@ -1,13 +1,13 @@
 -- `ln` and `ln1p` on each of the ways through the code. Assumes nothing.
 use mathlib.Core.Path.{_≡_, refl, sym, ap, _∙_, subst}
 use mathlib.Core.Logic.{_⊎_, inl, inr}
-use mathlib.Core.Bool.{Bool, true, false, not, _&&_, _||_, cond, true≢false, false≢true}
+use mathlib.Core.Bool.{true, false, _&&_, _||_, true≢false, false≢true, or-true}
 use Prim.Native.Nat.{ℕ, zero, suc, _+_, _-_, _*_, _^_, _≤_, _<_}
 use native.Mathlib.Nat.{zero-mul, mul-one, one-mul, mul-comm, mul-assoc, mul-pos, zero-lt-suc}
 use native.Mathlib.Omega.{arith}
 use borrow.Author.Tests.{lt-ltb, le-ltb, le-leb, lt-leb, ltb-false}
 use lib.IntN.{pos}
-use lib.Dec.{T, ltb, eqb, lt→ltb}
+use lib.Dec.{T, eqb, lt→ltb}
 use lib.Ieee.{Float, nan, inf, fin, binary64, up, down, minus, round, sum, add, sub, mul, div, neg, ofInt, isNan, lt, eq, le, ofBits}
 use lib.Ieee.Fits.{down-pos}
 use lib.Ieee.Back.{round-whole}
@@ -53,28 +53,17 @@ sub-whole n c N C =
     (sum-same binary64 false true n c 1 (num x * den y) (num y * den x) (den x * den y) (zero-lt-suc 0) (mul-pos (den-pos x) (den-pos y)) A B ∙ whole-difference n c)
 
 -- ---- `ln`, by its tests
-abbrev lnBy : Float → Bool → Bool → Bool → Float
-lnBy x z n b = cond z (inf true) (cond n nan (cond b (series (mantissa x ⊖ one) (exponent x) (exponent x ⊗ L)) x))
-
-ln-by : (x : Float) (z i l b : Bool) → eq x nought ≡ z → isNan x ≡ i → lt x nought ≡ l → finite x ≡ b → ln x ≡ lnBy x z (i || l) b
-unfolding ln
-ln-by x z i l b e f g h =
-    ap (λ (y : Bool). lnBy x y (isNan x || lt x nought) (finite x)) e ∙ ap (λ (y : Bool). lnBy x z (y || lt x nought) (finite x)) f ∙ ap (λ (y : Bool). lnBy x z (i || y) (finite x)) g ∙ ap (lnBy x z (i || l)) h
-
 zero-by-zero : nought ⊘ nought ≡ nan
 unfolding ofBits div
 zero-by-zero = refl
 
 pub ln-zero : (x : Float) → eq x nought ≡ true → bits 0xfff0000000000000 ≡ ln x
-unfolding ofBits
-ln-zero x e = sym (ln-by x true (isNan x) (lt x nought) (finite x) e refl refl refl)
+unfolding ln ofBits
+ln-zero x e = rw e
 
 pub ln-below : (x : Float) → eq x nought ≡ false → lt x nought ≡ true → nought ⊘ nought ≡ ln x
-ln-below x e l = zero-by-zero ∙ sym (ln-by x false (isNan x) true (finite x) e refl l refl ∙ go (isNan x))
-  where
-    go : (i : Bool) → lnBy x false (i || true) (finite x) ≡ nan
-    go true = refl
-    go false = refl
+unfolding ln
+ln-below x e l = zero-by-zero ∙ rw (e, l, or-true (isNan x))
 
 -- not zero, not below it, and below the infinity
 pub above : (x : Float) → eq x nought ≡ false → lt x nought ≡ false → lt x (bits 0x7ff0000000000000) ≡ true → T (positive x)
@@ -93,17 +82,14 @@ above (fin false zero e) z l h = absurd (true≢false (sym (rw (zero-mul (up e),
 above (fin false (suc m) e) z l h = lt→ltb 0 (suc m) (zero-lt-suc m)
 
 pub ln-parts : (x m k r : Float) → eq x nought ≡ false → lt x nought ≡ false → T (positive x) → (m ≡ mantissa x) × (k ≡ exponent x) → r ≡ series (m ⊖ one) k (k ⊗ L) → r ≡ ln x
-ln-parts x m k r z l p e h =
-    h
-    ∙ ap (λ (y : Float). series (y ⊖ one) k (k ⊗ L)) (e .0)
-    ∙ ap (λ (y : Float). series (mantissa x ⊖ one) y (y ⊗ L)) (e .1)
-    ∙ sym (ln-by x false false false true z (finite-no-nan x (positive-finite x p)) l (is-true (finite x) (positive-finite x p)))
+unfolding ln
+ln-parts x m k r z l p e h = h ∙ rw (e .0, e .1, z, l, finite-no-nan x (positive-finite x p), is-true (finite x) (positive-finite x p))
 
 pub ln-itself : (x : Float) → eq x nought ≡ false → lt x nought ≡ false → lt x (bits 0x7ff0000000000000) ≡ false → x ≡ ln x
-unfolding ofBits lt isNan
-ln-itself nan e l h = sym (ln-by nan false true false false e refl refl refl)
+unfolding ln ofBits lt isNan
+ln-itself nan e l h = refl
 ln-itself (inf true) e l h = absurd (true≢false h)
-ln-itself (inf false) e l h = sym (ln-by (inf false) false false false false e refl refl refl)
+ln-itself (inf false) e l h = refl
 ln-itself (fin s m e) z l h = absurd (true≢false h)
 
 -- ---- `ln1p`, by its tests: -0.25 to 1.5, and 0.40625
@@ -116,37 +102,26 @@ most = bits 0x3ff8000000000000
 abbrev cut : Float
 cut = bits 0x3fda000000000000
 
-abbrev ln1pBy : Float → Bool → Bool → Bool → Float
-ln1pBy u i j l =
-    cond (i && j)
-    (cond l (series u nought (nought ⊗ L ⊕ nought)) (series (mantissa (one ⊕ u) ⊖ one) (exponent (one ⊕ u)) (exponent (one ⊕ u) ⊗ L ⊕ (u ⊖ (one ⊕ u ⊖ one)) ⊘ (one ⊕ u))))
-    nan
-
-ln1p-by : (u : Float) (i j l : Bool) → le least u ≡ i → le u most ≡ j → lt u cut ≡ l → ln1p u ≡ ln1pBy u i j l
-unfolding ln1p
-ln1p-by u i j l e f g = ap (λ (y : Bool). ln1pBy u y (le u most) (lt u cut)) e ∙ ap (λ (y : Bool). ln1pBy u i y (lt u cut)) f ∙ ap (ln1pBy u i j) g
-
 zero-product : nought ≡ nought ⊗ L ⊕ nought
 unfolding ofBits mul add
 zero-product = refl
 
 pub ln1p-low : (u : Float) → le least u ≡ true → le u most ≡ true → lt u cut ≡ true → series u nought nought ≡ ln1p u
-ln1p-low u a b c = ap (series u nought) zero-product ∙ sym (ln1p-by u true true true a b c)
+unfolding ln1p
+ln1p-low u a b c = ap (series u nought) zero-product ∙ rw (a, b, c)
 
 pub ln1p-high : (u m k r : Float) → le least u ≡ true → le u most ≡ true → lt u cut ≡ false → (m ≡ mantissa (one ⊕ u)) × (k ≡ exponent (one ⊕ u))
     → r ≡ series (m ⊖ one) k (k ⊗ L ⊕ (u ⊖ (one ⊕ u ⊖ one)) ⊘ (one ⊕ u)) → r ≡ ln1p u
-ln1p-high u m k r a b l e h =
-    let c = (u ⊖ (one ⊕ u ⊖ one)) ⊘ (one ⊕ u) in
-    h
-    ∙ ap (λ (y : Float). series (y ⊖ one) k (k ⊗ L ⊕ c)) (e .0)
-    ∙ ap (λ (y : Float). series (mantissa (one ⊕ u) ⊖ one) y (y ⊗ L ⊕ c)) (e .1)
-    ∙ sym (ln1p-by u true true false a b l)
+unfolding ln1p
+ln1p-high u m k r a b l e h = h ∙ rw (e .0, e .1, a, b, l)
 
 pub ln1p-over : (u : Float) → le least u ≡ true → le u most ≡ false → nought ⊘ nought ≡ ln1p u
-ln1p-over u a b = zero-by-zero ∙ sym (ln1p-by u true false (lt u cut) a b refl)
+unfolding ln1p
+ln1p-over u a b = zero-by-zero ∙ rw (a, b)
 
 pub ln1p-under : (u : Float) → le least u ≡ false → nought ⊘ nought ≡ ln1p u
-ln1p-under u a = zero-by-zero ∙ sym (ln1p-by u false (le u most) (lt u cut) a refl refl)
+unfolding ln1p
+ln1p-under u a = zero-by-zero ∙ rw a
 
 -- from 0.40625, which is 13 / 2 ^ 5, to 1.5, which is 3 / 2, u is above zero, and 1 + u lies from 1 to 5 / 2
 in-range : (u : Float) → le u most ≡ true → lt u cut ≡ false → T (positive u)

@@ -22,6 +22,9 @@ use Rattle.arithmetic.specs.Laws.Numbers.{same-ltb, lt-or-le, pow-split,
 next : (n K : ℕ) → (n + 1) * K ≡ n * K + K
 next n K = let a = add-mul n 1 K in let b = one-mul K in omega arith
 
+pub flat : (n : ℕ) → 0 * 18446744073709551616 + n ≡ n
+flat n = omega arith
+
 -- ---- sums and differences on one half
 -- x wraps once
 wrapped : (K x : ℕ) → K ≤ x → x < K + K → x % K + K ≡ x

@@ -1,42 +1,17 @@
--- Values of the functions that antt computes. Assumes nothing.
+-- Values of the functions that antt computes, besides the keystrokes of document 01, which stand with layer four. Assumes nothing.
 use mathlib.Core.Path.{_≡_, refl}
 use mathlib.Core.Bool.{true, false}
 use lib.IntN.{pos, negsuc}
-use lib.Ieee.{nan, inf, fin, round, add, mul, ofBits, isNan, binary64}
+use lib.Ieee.{nan, inf, fin, ofBits}
 use Rattle.arithmetic.specs.Operations.{bits, nought, one, two}
-use Rattle.arithmetic.specs.Basic.{trunc, max}
 use Rattle.arithmetic.specs.Sqrt.{sqrt}
 use Rattle.arithmetic.specs.MulAdd.{mulAdd}
 use Rattle.arithmetic.specs.Exp.{highest, lowest, exp}
 use Rattle.arithmetic.specs.Ln.{ln, ln1p}
 
--- √4, √2 ^ -1074, and √2
-pub root-of-four : sqrt (fin false 1 (pos 2)) ≡ fin false 1 (pos 1)
-unfolding sqrt
-root-of-four = refl
-
-pub root-of-smallest : sqrt (fin false 1 (negsuc 1073)) ≡ fin false 1 (negsuc 536)
-unfolding sqrt
-root-of-smallest = refl
-
-pub root-of-two : sqrt (fin false 1 (pos 1)) ≡ bits 0x3ff6_a09e_667f_3bcd
+pub root-of-two : sqrt two ≡ bits 0x3ff6_a09e_667f_3bcd
 unfolding sqrt ofBits
 root-of-two = refl
-
--- -0.5 cut to a whole number is -0, and of NaN and 0 the larger is 0
-pub trunc-minus-half : trunc (fin true 1 (negsuc 0)) ≡ fin true 0 (pos 0)
-unfolding trunc round
-trunc-minus-half = refl
-
-pub max-drops-nan : max nan nought ≡ nought
-unfolding max isNan
-max-drops-nan = refl
-
--- (1 + 2^-30) * (1 - 2^-30) - 1 is -2^-60; with the product rounded first it is 0
-pub once-and-twice : (mulAdd (fin false 1073741825 (negsuc 29)) (fin false 1073741823 (negsuc 29)) (fin true 1 (pos 0)) ≡ fin true 1 (negsuc 59))
-    × (add binary64 (mul binary64 (fin false 1073741825 (negsuc 29)) (fin false 1073741823 (negsuc 29))) (fin true 1 (pos 0)) ≡ fin false 0 (pos 0))
-unfolding mulAdd add mul
-once-and-twice = (refl, refl)
 
 -- specials, signs of exact zeros, a tie at the smallest value, and overflow
 pub fused-controls : (mulAdd (inf false) (fin true 0 (pos 0)) (fin false 1 (pos 0)) ≡ nan)
@@ -53,13 +28,12 @@ pub fused-controls : (mulAdd (inf false) (fin true 0 (pos 0)) (fin false 1 (pos 
 unfolding mulAdd
 fused-controls = (refl, refl, refl, refl, refl, refl, refl, refl, refl, refl, refl)
 
--- e ^ 0 and e; the smallest result above zero, for which k is -1075; the largest, for which k is 1024
-pub exp-values : (exp nought ≡ one) × (exp one ≡ bits 0x4005_bf0a_8b14_576a) × (exp lowest ≡ bits 1) × (exp highest ≡ bits 0x7fef_ffff_ffff_ff2a)
+-- e; the smallest result above zero, for which k is -1075; the largest, for which k is 1024
+pub exp-values : (exp one ≡ bits 0x4005_bf0a_8b14_576a) × (exp lowest ≡ bits 1) × (exp highest ≡ bits 0x7fef_ffff_ffff_ff2a)
 unfolding exp
-exp-values = (refl, refl, refl, refl)
+exp-values = (refl, refl, refl)
 
-pub ln-values : (ln one ≡ nought)
-    × (ln two ≡ bits 0x3fe6_2e42_fefa_39ef)
+pub ln-values : (ln two ≡ bits 0x3fe6_2e42_fefa_39ef)
     × (ln (fin false 1 (negsuc 1073)) ≡ bits 0xc087_4385_446d_71c3)
     × (ln (bits 0x7fef_ffff_ffff_ffff) ≡ bits 0x4086_2e42_fefa_39ef)
     × (ln (fin true 0 (pos 0)) ≡ inf true)
@@ -68,7 +42,7 @@ pub ln-values : (ln one ≡ nought)
     × (ln (inf true) ≡ nan)
     × (ln nan ≡ nan)
 unfolding ln
-ln-values = (refl, refl, refl, refl, refl, refl, refl, refl, refl)
+ln-values = (refl, refl, refl, refl, refl, refl, refl, refl)
 
 -- both ends of the range, the cut at 0.40625, and a value outside; ln1p of -0 is +0
 pub ln1p-values : (ln1p nought ≡ nought)

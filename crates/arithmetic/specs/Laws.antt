@@ -16,7 +16,6 @@ pub mod SqrtScaling
 pub mod SqrtNearest
 pub mod SqrtBounds
 pub mod Identities
-pub mod Fits
 pub mod Signs
 pub mod Bounds
 pub mod PowersOfTwo

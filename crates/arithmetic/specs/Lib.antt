@@ -4,6 +4,7 @@ pub mod Basic
 pub mod Sqrt
 pub mod MulAdd
 pub mod Exp
+pub mod ExpSteps
 pub mod Ln
 pub mod Words
 pub mod Steps

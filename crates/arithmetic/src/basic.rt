@@ -7,11 +7,13 @@ ghost use lib.Ieee.{binary64, isNan, round};
 ghost use Rattle.arithmetic.specs.Basic.{abs, signum, trunc, over, max, min, recip, isFinite, isInfinite};
 ghost use Rattle.arithmetic.specs.WholePart.{wholePart};
 
+// Of NaN, NaN: as a quotient, since for a cheaper operation the compiler computes both results and
+// picks one, which takes longer than the test.
 pub fn abs(x: f64) -> f64
     ensures { λ r. ⌜ r ≡ abs x ⌝ }
 {
     if x != x {
-        return x;
+        return x / x;
     }
     f64::from_bits(f64::to_bits(x) % 0x8000_0000_0000_0000)
 }
@@ -54,19 +56,23 @@ pub(crate) fn signed(negative: bool, n: u64) -> f64
     if negative { -(n as f64) } else { n as f64 }
 }
 
-// The whole part, toward zero, with the sign of x.
+// The whole part, toward zero, with the sign of x: the pattern's digits below the unit are cleared.
 pub fn trunc(x: f64) -> f64
     ensures { λ r. ⌜ r ≡ trunc x ⌝ }
 {
     if x != x {
         return x;
     }
-    let n = whole_part(x);
-    if n < 0x10_0000_0000_0000 {
-        signed(0x8000_0000_0000_0000 <= f64::to_bits(x), n)
-    } else {
-        x
+    let bits = f64::to_bits(x);
+    let field = (bits >> 52) & 0x7ff;
+    if field < 1023 {
+        return f64::from_bits(bits - bits % 0x8000_0000_0000_0000);
     }
+    if field < 1075 {
+        let below = 1075 - field;
+        return f64::from_bits((bits >> below) << below);
+    }
+    x
 }
 
 // Whether `max` takes x: the larger, and of two that are equal x where its sign is clear.

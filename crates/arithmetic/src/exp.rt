@@ -2,9 +2,11 @@
 ghost use mathlib.Core.Path.{_≡_};
 ghost use mathlib.Core.Bool.{false, cond};
 ghost use Prim.Native.Nat.{_+_, _-_, _^_, _<_};
-ghost use lib.Ieee.{minus};
+ghost use lib.Dec.{T};
+ghost use lib.Ieee.{binary64, minus, mul};
 ghost use lib.Ieee.Exact.{HasValue};
 ghost use Rattle.arithmetic.specs.Exp.{beyond, reduced, scaled, exp};
+ghost use Rattle.arithmetic.specs.ExpSteps.{ordinary, near};
 use super::basic::signed;
 use super::basic::whole_part;
 
@@ -19,6 +21,17 @@ const PER_LN2: f64 = 1.4426950408889634;
 const HIGHEST: f64 = 709.782712893384;
 
 const LOWEST: f64 = -745.1332191019411;
+
+// For an x of smaller magnitude 2^k is a normal number.
+const ORDINARY: f64 = 708.0;
+
+// 3 * 2^51 + 1023. The sum of x / ln 2 and this is a whole number; its last bits are k + 1023, for
+// the nearest k.
+const SHIFT: f64 = 6755399441056767.0;
+
+// 1/2 - 2^-16. Where x / ln 2 differs less from k, k is also what truncation gives after the half
+// is added.
+const NEAR: f64 = 0.4999847412109375;
 
 // x / ln 2, and a half away from zero.
 fn beyond(negative: bool, x: f64) -> f64
@@ -84,7 +97,8 @@ fn exponent(negative: bool, n: u64) -> u64
     if negative { 1075 - n } else { 1075 + n }
 }
 
-pub fn exp(x: f64) -> f64
+// For every x, by the fields of the bit patterns.
+fn general(x: f64) -> f64
     ensures { λ r. ⌜ r ≡ exp x ⌝ }
 {
     if x != x {
@@ -99,4 +113,53 @@ pub fn exp(x: f64) -> f64
     let negative = 0x8000_0000_0000_0000 <= f64::to_bits(x);
     let n = whole_part(beyond(negative, x));
     scale(reduced(x, signed(negative, n)), exponent(negative, n))
+}
+
+// Whether x has ordinary magnitude.
+fn is_ordinary(x: f64) -> bool
+    ensures { λ r. ⌜ r ≡ ordinary x ⌝ }
+{
+    (x < ORDINARY) & (-ORDINARY < x)
+}
+
+// Whether x / ln 2 is near a whole number.
+fn is_near(x: f64) -> bool
+    ensures { λ r. ⌜ r ≡ near x ⌝ }
+{
+    let w = x * PER_LN2;
+    let rest = w - (w + SHIFT - SHIFT);
+    (rest < NEAR) & (-NEAR < rest)
+}
+
+// e^x, with k from the sum with SHIFT.
+fn plain(x: f64) -> f64
+    requires { ⌜ T (ordinary x) ⌝ ∗ ⌜ T (near x) ⌝ }
+    ensures { λ r. ⌜ r ≡ exp x ⌝ }
+{
+    let t = x * PER_LN2 + SHIFT;
+    let field = f64::to_bits(t) - 0x4338_0000_0000_0000;
+    reduced(x, t - SHIFT) * f64::from_bits(field * 4503599627370496)
+}
+
+pub fn exp(x: f64) -> f64
+    ensures { λ r. ⌜ r ≡ exp x ⌝ }
+{
+    if is_ordinary(x) {
+        if is_near(x) {
+            return plain(x);
+        }
+    }
+    general(x)
+}
+
+// e^x e^y. The steps of the two are the same, so that a processor can take them in pairs.
+pub fn exp_product(x: f64, y: f64) -> f64
+    ensures { λ r. ⌜ r ≡ mul binary64 (exp x) (exp y) ⌝ }
+{
+    if is_ordinary(x) & is_ordinary(y) {
+        if is_near(x) & is_near(y) {
+            return plain(x) * plain(y);
+        }
+    }
+    exp(x) * exp(y)
 }

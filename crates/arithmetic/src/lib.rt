@@ -5,4 +5,5 @@ pub mod fused_multiply_add;
 pub mod ln;
 pub mod mul_add;
 mod pair;
+mod root_table;
 pub mod sqrt;

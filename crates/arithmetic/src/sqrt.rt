@@ -1,7 +1,10 @@
-// The square root of an f64, rounded to the nearest f64, by arithmetic on integers.
+// The square root of an f64, rounded to the nearest f64: an estimate in floats where a test on integers finds it
+// right, which is nearly always, and else arithmetic on integers.
 ghost use mathlib.Core.Path.{_≡_};
-ghost use Prim.Native.Nat.{_+_, _*_, _/_, _^_, _≤_, _<_};
+ghost use Prim.Native.Nat.{_+_, _*_, _/_, _%_, _^_, _≤_, _<_};
+ghost use lib.Dec.{T};
 ghost use Rattle.arithmetic.specs.Sqrt.{closestRoot, sqrtUnits, sqrt};
+use super::root_table;
 
 // The whole part of f, for an f from 1 to 2^28 that is no whole number; some number for any other.
 // From 2^52 to 2^53 the whole numbers are the values of f64, and their last digits are the pattern's.
@@ -96,6 +99,82 @@ fn of_digits(m: u64, p: u64) -> f64
     f64::from_bits(k * 4503599627370496 + closest(w, guess(m, scale)))
 }
 
+// An estimate of √x for the normal x above 0 with pattern b: the nearest f64 for all but about 1 in 200, and no proof
+// asks it to be. With x = z * 4^j for a z from 1/2 to 2, s from the table and h = (z - s²) / (4s²), √z is
+// s + 2sh * (1 - h + 2h² - 5h³ + ..); z - s² is exact, and |h| is below 2^-7.
+fn estimate(b: u64) -> f64
+    requires { ⌜ b < 9218868437227405312 ⌝ }
+{
+    let i = b / 281474976710656 % 32;
+    let z = f64::from_bits(b % 9007199254740992 + 4602678819172646912);
+    let scale = f64::from_bits((b / 9007199254740992 + 512) * 4503599627370496);
+    let slope = root_table::slope(i);
+    let d = z - root_table::square(i);
+    let h = d * (slope * slope);
+    let t = d * (slope * scale);
+    let h2 = h * h;
+    let th = t * h;
+    let near = t + th * (2.0000000000295675 * h - 1.0);
+    let middle = 13.999995878540293 * h - 5.0;
+    let far = (132.14362418261675 * h - 42.0) - 429.0 * h2;
+    root_table::root(i) * scale + (near + th * h2 * (middle + h2 * far))
+}
+
+// Whether q is the whole number nearest to √(w * 2^52): true only if it is, and nearly always if it is. With s and d the
+// upper and the lower digits of q, and v = (w - s²) * 2^26 + s - 2sd, w * 2^52 - q² + q = v * 2^26 + d - d².
+fn is_closest(w: u64, q: u64) -> bool
+    requires { ⌜ (2 ^ 52 ≤ w) × (w + 1 < 2 ^ 54) ⌝ }
+    ensures { λ r. ⌜ (T r → (q ≡ closestRoot (w * 2 ^ 52) 0) × (2 ^ 52 ≤ q) × (q < 2 ^ 53)) ⌝ }
+{
+    if 9007199254740992 <= q {
+        return false;
+    }
+    let s = q / 67108864;
+    let d = q % 67108864;
+    if w < s * s {
+        return false;
+    }
+    let e = w - s * s;
+    if 268435456 <= e {
+        return false;
+    }
+    let n = e * 67108864 + s;
+    let t = 2 * s * d;
+    if n < t {
+        return false;
+    }
+    let v = n - t;
+    if 1073741824 <= v {
+        return false;
+    }
+    let a = v * 67108864 + d;
+    if a <= d * d {
+        return false;
+    }
+    a <= d * d + 2 * q
+}
+
+// The root of a normal x above 0 with pattern b.
+fn of_normal(b: u64) -> f64
+    requires { ⌜ (4503599627370496 ≤ b) × (b < 9218868437227405312) ⌝ }
+    ensures { λ r. ⌜ r ≡ sqrtUnits ((4503599627370496 + b % 4503599627370496) * 2 ^ (1073 + b / 4503599627370496)) ⌝ }
+{
+    let r = estimate(b);
+    let p = 1073 + b / 4503599627370496;
+    let digits = b % 9007199254740992;
+    let mut w = digits;
+    if digits < 4503599627370496 {
+        w = 2 * digits + 9007199254740992;
+    }
+    if r == r {
+        let q = std::num::wrapping_sub_u64(f64::to_bits(r), (p - 52) / 2 * 4503599627370496);
+        if is_closest(w, q) {
+            return r;
+        }
+    }
+    of_digits(4503599627370496 + b % 4503599627370496, p)
+}
+
 // The same of a subnormal number, which is b units.
 fn of_subnormal(b: u64) -> f64
     requires { ⌜ (0 < b) × (b < 2 ^ 52) ⌝ }
@@ -126,10 +205,7 @@ pub fn sqrt(x: f64) -> f64
         return of_subnormal(b);
     }
     if b < 0x7ff0_0000_0000_0000 {
-        return of_digits(
-            4503599627370496 + b % 4503599627370496,
-            1073 + b / 4503599627370496,
-        );
+        return of_normal(b);
     }
     // what is left is +inf, -0 and all that is below zero
     if b <= 0x8000_0000_0000_0000 {

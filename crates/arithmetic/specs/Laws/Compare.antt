@@ -75,10 +75,6 @@ module _ (k : ℕ) (x y x' y' : Float) (h : Times k x x') (g : Times k y y') whe
   unfolding le
   le-times = rw (lt-times, eq-times)
 
-  pub ne-times : ne x' y' ≡ ne x y
-  unfolding ne
-  ne-times = rw eq-times
-
 -- ---- no NaN
 pub finite-no-nan : (x : Float) → T (finite x) → isNan x ≡ false
 unfolding isNan
@@ -91,3 +87,9 @@ unfolding isNan
 is-no-nan nan h = absurd (true≢false (sym nan-differs ∙ h))
 is-no-nan (inf s) h = refl
 is-no-nan (fin s m e) h = refl
+
+pub equal-no-nan : (x : Float) → eq x x ≡ true → isNan x ≡ false
+unfolding eq isNan
+equal-no-nan nan h = absurd (true≢false (sym h))
+equal-no-nan (inf s) h = refl
+equal-no-nan (fin s m e) h = refl

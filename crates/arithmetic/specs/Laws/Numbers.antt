@@ -4,7 +4,7 @@ use mathlib.Core.Logic.{_⊎_, inl, inr}
 use Prim.Native.Nat.{ℕ, zero, suc, _+_, _-_, _*_, _^_, _≤_, _<_, compare, Ordering, Ordering·lt, Ordering·eq, Ordering·gt}
 use native.Mathlib.Nat.{le-trans, le-of-eq, le-of-lt, lt-of-le-of-lt, mul-le-mul-left, le-antisymm, lt-of-lt-of-le, lt-of-not-le, le-of-suc-le-suc, not-le-of-lt, mul-comm, mul-assoc, mul-sub, mul-le-mul, mul-le-mul-right, mul-lt-mul-of-pos-right, lt-of-mul-lt-mul-right, pow-suc}
 use native.Mathlib.Omega.{arith}
-use mathlib.Core.Bool.{Bool, true, false, not}
+use mathlib.Core.Bool.{Bool, true, false, not, true≢false}
 use lib.Dec.{T, isLe, isEq, ltb, ltb→lt, lt→ltb, nltb→le, leb→le, nleb→lt, eqb→eq}
 use lib.Pow.{pow-add, pow-pos, pow-mono, pow-lt, shl-lt, le-ones}
 use lib.Ieee.{size}
@@ -13,6 +13,15 @@ use lib.Ieee.Digits.{size-lt, size-le, size-reaches}
 -- ---- tests
 pub false-not : (b : Bool) → b ≡ false → T (not b)
 false-not b e = subst (λ (x : Bool). T (not x)) (sym e) tt
+
+-- a test that the code denies, by what the tested call ensures
+pub denied : (r s : Bool) → r ≡ s → not r ≡ true → s ≡ false
+denied true s e n = absurd (true≢false (sym n))
+denied false s e n = sym e
+
+pub affirmed : (r s : Bool) → r ≡ s → not r ≡ false → s ≡ true
+affirmed true s e n = sym e
+affirmed false s e n = absurd (true≢false n)
 
 pub same-test : (a b : Bool) → (T a → T b) → (T b → T a) → a ≡ b
 same-test true true p q = refl

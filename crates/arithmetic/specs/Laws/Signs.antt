@@ -1,17 +1,17 @@
 -- The sign and the specials of a value, as comparisons and bit patterns show them. 9223372036854775808 is 2 ^ 63. Assumes nothing.
 use mathlib.Core.Path.{_≡_, refl, sym, ap, _∙_, subst}
-use Prim.Native.Nat.{ℕ, zero, suc, _+_, _*_, _/_, _%_, _≤_, _<_}
-use native.Mathlib.Nat.{mod-lt, mod-eq-of-lt}
+use Prim.Native.Nat.{ℕ, zero, suc, _+_, _/_, _%_, _≤_, _<_}
+use native.Mathlib.Nat.{mod-eq-of-lt}
 use native.Mathlib.Omega.{arith}
-use mathlib.Core.Bool.{Bool, true, false, not, _||_, cond, true≢false}
+use mathlib.Core.Bool.{Bool, true, false, not, cond, _&&_, _||_, true≢false}
 use borrow.Author.Tests.{lt-leb, le-leb, le-ltb, lt-ltb, leb-true, leb-false}
 use lib.Dec.{T, leb, ltb, eqb}
 use lib.Ieee.{Float, nan, inf, fin, binary64, odd, ofFields, ofBits, toBits, nanBits, fits, isNan, neg, lt, eq, ne}
-use lib.Ieee.Bits.{ofBits-toBits, nanBits-is, nanBits-above}
+use lib.Ieee.Bits.{ofBits-toBits, nanBits-is}
 use lib.Ieee.Compare.{differs-from-itself}
 use lib.Ieee.Scale.{finite}
-use Rattle.arithmetic.specs.Operations.{infinity, one}
-use Rattle.arithmetic.specs.Basic.{minus?, abs, signum, max, min, over, isInfinite}
+use Rattle.arithmetic.specs.Operations.{bits, infinity, one}
+use Rattle.arithmetic.specs.Basic.{minus?, abs, signum, isInfinite}
 use Rattle.arithmetic.specs.Laws.Compare.{is-no-nan}
 use Rattle.arithmetic.specs.Laws.Patterns.{ofBits-is, at-zero, above-zero}
 
@@ -23,51 +23,19 @@ pub has-bits : (x : Float) → ne x x ≡ false → T (not (isNan x))
 has-bits x h = subst (λ (b : Bool). T (not b)) (sym (is-no-nan x h)) tt
 
 -- ---- the infinities
-pub infinity-is : infinity ≡ inf false
-unfolding ofBits
-infinity-is = refl
+pub finite-test : (x : Float) → (lt x infinity && lt (bits 0xfff0_0000_0000_0000) x) ≡ finite x
+unfolding lt ofBits
+finite-test nan = refl
+finite-test (inf true) = refl
+finite-test (inf false) = refl
+finite-test (fin s m e) = refl
 
-pub minus-infinity-is : ofBits binary64 0xfff0_0000_0000_0000 ≡ inf true
-unfolding ofBits
-minus-infinity-is = refl
-
-pub finite-below : (x : Float) → lt x infinity ≡ true → lt (ofBits binary64 0xfff0_0000_0000_0000) x ≡ finite x
-unfolding lt
-finite-below x h = ap (λ (k : Float). lt k x) minus-infinity-is ∙ go x (ap (lt x) (sym infinity-is) ∙ h)
-  where
-    go : (x : Float) → lt x (inf false) ≡ true → lt (inf true) x ≡ finite x
-    go nan h = refl
-    go (inf true) h = refl
-    go (inf false) h = sym h
-    go (fin s m e) h = refl
-
-pub finite-not-below : (x : Float) → lt x infinity ≡ false → false ≡ finite x
-unfolding lt
-finite-not-below x h = go x (ap (lt x) (sym infinity-is) ∙ h)
-  where
-    go : (x : Float) → lt x (inf false) ≡ false → false ≡ finite x
-    go nan h = refl
-    go (inf s) h = refl
-    go (fin s m e) h = sym h
-
-pub infinite-equal : (x : Float) → eq x infinity ≡ true → true ≡ isInfinite x
-unfolding eq isNan
-infinite-equal x h = go x (ap (eq x) (sym infinity-is) ∙ h)
-  where
-    go : (x : Float) → eq x (inf false) ≡ true → true ≡ isInfinite x
-    go nan h = sym h
-    go (inf s) h = refl
-    go (fin s m e) h = sym h
-
-pub infinite-minus : (x : Float) → eq x infinity ≡ false → eq x (ofBits binary64 0xfff0_0000_0000_0000) ≡ isInfinite x
-unfolding eq isNan
-infinite-minus x h = ap (eq x) minus-infinity-is ∙ go x (ap (eq x) (sym infinity-is) ∙ h)
-  where
-    go : (x : Float) → eq x (inf false) ≡ false → eq x (inf true) ≡ isInfinite x
-    go nan h = refl
-    go (inf true) h = refl
-    go (inf false) h = sym h
-    go (fin s m e) h = refl
+pub infinite-test : (x : Float) → (eq x infinity || eq x (bits 0xfff0_0000_0000_0000)) ≡ isInfinite x
+unfolding eq isNan ofBits
+infinite-test nan = refl
+infinite-test (inf true) = refl
+infinite-test (inf false) = refl
+infinite-test (fin s m e) = refl
 
 -- ---- the sign is the pattern's highest bit
 odd-minus : (s : Bool) (q k : ℕ) → minus? (odd 53 s q k 1074) ≡ s
@@ -148,15 +116,7 @@ sign-test x h n = go (leb 9223372036854775808 b) refl ∙ sym (ap not (sign-bit 
     go true e = le-ltb b 9223372036854775808 (leb-true 9223372036854775808 b e) ∙ sym (ap not e)
     go false e = lt-ltb b 9223372036854775808 (leb-false 9223372036854775808 b e) ∙ sym (ap not e)
 
--- ---- `abs` and `signum` of NaN, and `signum` by the sign
-pub abs-nan : (x : Float) → x ≡ nan → x ≡ abs x
-unfolding abs
-abs-nan x e = e ∙ sym (ap abs e)
-
-pub signum-nan : (x : Float) → x ≡ nan → x ≡ signum x
-unfolding signum
-signum-nan x e = e ∙ sym (ap signum e)
-
+-- ---- `signum` by the sign
 pub signum-is : (x : Float) → isNan x ≡ false → signum x ≡ cond (minus? x) (neg one) one
 unfolding signum isNan
 signum-is nan n = absurd (true≢false n)

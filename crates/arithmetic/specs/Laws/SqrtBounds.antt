@@ -1,26 +1,24 @@
 -- The root of a finite value above zero is finite and above zero; that of an ordinary value lies from 2 ^ -511 to (2 ^ 53 - 1) * 2 ^ 459, so that the product of two is ordinary, and scales by 4 ^ k where both do. Assumes nothing.
-use mathlib.Core.Path.{_≡_, refl, sym, ap, _∙_, subst}
+use mathlib.Core.Path.{_≡_, sym, ap, _∙_, subst}
 use mathlib.Core.Logic.{inl}
-use Prim.Native.Nat.{ℕ, zero, suc, _+_, _*_, _^_, _≤_, _<_, zero-le}
-use native.Mathlib.Nat.{le-trans, le-of-eq, le-of-suc-le-suc, lt-of-lt-of-le, lt-of-not-le, lt-irrefl, zero-lt-suc, zero-mul, one-mul, mul-one, mul-pos, mul-assoc, mul-comm, mul-left-comm, mul-right-comm, mul-mul-mul-comm, mul-le-mul, mul-le-mul-left, mul-le-mul-right, le-of-mul-le-mul-right}
+use Prim.Native.Nat.{ℕ, _+_, _*_, _^_, _≤_, _<_}
+use native.Mathlib.Nat.{le-trans, le-of-eq, le-of-suc-le-suc, lt-of-lt-of-le, lt-of-not-le, lt-irrefl, one-mul, mul-one, mul-pos, mul-assoc, mul-comm, mul-left-comm, mul-right-comm, mul-mul-mul-comm, mul-le-mul, mul-le-mul-left, mul-le-mul-right, le-of-mul-le-mul-right}
 use native.Mathlib.Omega.{arith}
-use mathlib.Core.Bool.{Bool, true, false, _||_}
-use borrow.Author.Tests.{lt-ltb, le-ltb}
-use lib.IntN.{ℤ, pos}
-use lib.Dec.{T, lit≤, lt→ltb}
+use mathlib.Core.Bool.{false}
+use lib.IntN.{pos}
+use lib.Dec.{T, lit≤}
 use lib.Pow.{pow-add, pow-pos, pow-mono}
-use lib.Ieee.{Float, nan, inf, fin, binary64, fits, isNan, lt, le, mul, round, up, down, ofBits}
-use lib.Ieee.Fits.{mul-fits, up-pos}
+use lib.Ieee.{Float, fin, binary64, fits, le, mul, round}
+use lib.Ieee.Fits.{mul-fits}
 use lib.Ieee.Order.{round-mono}
 use lib.Ieee.Scale.{finite, normal-of-fraction}
 use lib.Ieee.Positive.{num, den, den-pos, positive, positive-of-value, value→cross}
-use Rattle.arithmetic.specs.Operations.{nought, minPositive}
+use Rattle.arithmetic.specs.Operations.{minPositive}
 use Rattle.arithmetic.specs.Basic.{minus?}
 use Rattle.arithmetic.specs.Sqrt.{sqrt}
 use Rattle.arithmetic.specs.Laws.Numbers.{four}
 use Rattle.arithmetic.specs.Laws.Times.{Times, has-finite, has-sign}
 use Rattle.arithmetic.specs.Laws.Own.{grid-under}
-use Rattle.arithmetic.specs.Laws.Compare.{finite-no-nan}
 use Rattle.arithmetic.specs.Laws.Sums.{round-finite}
 use Rattle.arithmetic.specs.Laws.Products.{mul-is, mul-times}
 use Rattle.arithmetic.specs.Laws.Halves.{Ordinary, ordinary-positive, large-cross, minPositive-is}
@@ -35,41 +33,6 @@ pub sqrt-positive : (x : Float) → T (positive x) → T (fits binary64 x) → T
 sqrt-positive x p f =
     let r = sqrt-right x p f in
     positive-of-value (sqrt x) (r .q * 2 ^ r .k) (2 ^ 1074) (r .root-value) (mul-pos (lt-of-lt-of-le (pow-pos 52) (r .q-low)) (pow-pos (r .k)))
-
--- a zero is not below zero, and what is above zero is not
-zero-level : (s : Bool) (e : ℤ) → lt (fin s 0 e) nought ≡ false
-unfolding lt ofBits
-zero-level true e = rw (zero-mul (up e), zero-mul (down e))
-zero-level false e = rw (zero-mul (up e), zero-mul (down e))
-
-positive-not-below : (x : Float) → T (positive x) → lt x nought ≡ false
-unfolding lt ofBits
-positive-not-below nan p = absurd p
-positive-not-below (inf s) p = absurd p
-positive-not-below (fin true m e) p = absurd p
-positive-not-below (fin false m e) p = rw (zero-mul (down e)) (le-ltb (m * up e * 1) 0 zero-le)
-
--- no root is below zero
-pub sqrt-not-below : (x : Float) → T (fits binary64 x) → lt (sqrt x) nought ≡ false
-unfolding sqrt lt ofBits
-sqrt-not-below nan f = refl
-sqrt-not-below (inf true) f = refl
-sqrt-not-below (inf false) f = refl
-sqrt-not-below (fin s zero e) f = zero-level s e
-sqrt-not-below (fin true (suc m) e) f = refl
-sqrt-not-below (fin false (suc m) e) f = let p = lt→ltb 0 (suc m) (zero-lt-suc m) in positive-not-below (sqrt (fin false (suc m) e)) (sqrt-positive (fin false (suc m) e) p f)
-
--- NaN has no root, and what is below zero has none
-pub sqrt-nan : (x : Float) → T (fits binary64 x) → isNan (sqrt x) ≡ (isNan x || lt x nought)
-unfolding sqrt isNan lt ofBits
-sqrt-nan nan f = refl
-sqrt-nan (inf true) f = refl
-sqrt-nan (inf false) f = refl
-sqrt-nan (fin s zero e) f = sym (zero-level s e)
-sqrt-nan (fin true (suc m) e) f = let h = mul-pos (zero-lt-suc m) (up-pos e) in sym (lt-ltb 0 (suc m * up e * 1 + 0 * down e) (omega arith))
-sqrt-nan (fin false (suc m) e) f =
-    let p = lt→ltb 0 (suc m) (zero-lt-suc m) in
-    finite-no-nan (sqrt (fin false (suc m) e)) (sqrt-finite (fin false (suc m) e) p f) ∙ sym (positive-not-below (fin false (suc m) e) p)
 
 -- ---- the root of an ordinary value
 -- the largest root, (2 ^ 53 - 1) * 2 ^ 459, just below 2 ^ 512; and the largest value

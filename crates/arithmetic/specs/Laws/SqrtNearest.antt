@@ -1,14 +1,13 @@
 -- What `sqrt` is of a finite value above zero: a value of the format with all its 53 digits, less than half a unit of the last of them from the real root. Assumes nothing.
 use mathlib.Core.Path.{_≡_, sym, ap, _∙_, subst}
-use Prim.Native.Nat.{ℕ, zero, suc, _+_, _-_, _*_, _/_, _^_, _≤_, _<_}
-use native.Mathlib.Nat.{le-trans, le-of-eq, le-of-lt, lt-irrefl, lt-of-lt-of-le, lt-of-le-of-lt, lt-of-not-le, zero-lt-suc, mul-assoc, mul-le-mul-left, mul-le-mul-right, mul-lt-mul-of-pos-right}
+use Prim.Native.Nat.{ℕ, _+_, _-_, _*_, _/_, _^_, _≤_, _<_}
+use native.Mathlib.Nat.{le-trans, le-of-eq, lt-irrefl, lt-of-lt-of-le, lt-of-le-of-lt, lt-of-not-le, mul-assoc, mul-le-mul-left, mul-le-mul-right, mul-lt-mul-of-pos-right}
 use native.Mathlib.Omega.{arith}
-use mathlib.Core.Bool.{true, false}
-use lib.Pow.{pow-pos, pow-mono, shl-lt}
-use lib.Dec.{T, lt→ltb}
-use lib.Ieee.{Float, nan, inf, fin, binary64, size, odd, fits}
+use mathlib.Core.Bool.{false}
+use lib.Pow.{pow-pos, pow-mono}
+use lib.Dec.{T}
+use lib.Ieee.{Float, binary64, size, odd, fits}
 use lib.Ieee.Digits.{size-lt, size-le, size-reaches}
-use lib.Ieee.Fits.{odd-fits, nan-fits}
 use lib.Ieee.Exact.{HasValue, odd-sign}
 use lib.Ieee.Positive.{positive, positive-finite, first-pos, value-pos}
 use Rattle.arithmetic.specs.Sqrt.{closestRoot, sqrtUnits, sqrt}
@@ -33,7 +32,7 @@ pub record Right (x r : Float) : Type 0 where
   pub below : 4 * a < (2 * q + 1) * (2 * q + 1) * 4 ^ k
 
 -- ---- the nearest whole root of an n of 105 or 106 digits has 53
-near-low : (n r : ℕ) → 2 ^ 104 ≤ n → n ≤ r * r + r → 2 ^ 52 ≤ r
+pub near-low : (n r : ℕ) → 2 ^ 104 ≤ n → n ≤ r * r + r → 2 ^ 52 ≤ r
 near-low n r lo h = lt-of-not-le (λ (g : r ≤ 4503599627370495). no g (mul-le-mul-right r g))
   where
     no : r ≤ 4503599627370495 → r * r ≤ 4503599627370495 * r → ⊥
@@ -42,7 +41,7 @@ near-low n r lo h = lt-of-not-le (λ (g : r ≤ 4503599627370495). no g (mul-le-
 less : (n r s : ℕ) → 9007199254740992 * r ≤ s → s < n + r → 9007199254740991 * r < n
 less n r s g h = omega arith
 
-near-high : (n r : ℕ) → n ≤ 9007199254740991 * 2 ^ 53 → r * r < n + r → r < 2 ^ 53
+pub near-high : (n r : ℕ) → n ≤ 9007199254740991 * 2 ^ 53 → r * r < n + r → r < 2 ^ 53
 near-high n r hi h = lt-of-not-le (λ (g : 9007199254740992 ≤ r). lt-irrefl n (lt-of-le-of-lt (le-trans hi (mul-le-mul-left 9007199254740991 g)) (less n r (r * r) (mul-le-mul-right r g) h)))
 
 above-of : (n q : ℕ) → 0 < q → q * q < n + q → (2 * q - 1) * (2 * q - 1) < 4 * n
@@ -102,19 +101,3 @@ sqrt-right x p f =
     bounds z j a b c = (omega arith, omega arith, omega arith, omega arith)
 
 -- ---- the format holds every root
-pub sqrt-fits : (x : Float) → T (fits binary64 x) → T (fits binary64 (sqrt x))
-unfolding sqrt
-sqrt-fits nan f = nan-fits binary64
-sqrt-fits (inf true) f = nan-fits binary64
-sqrt-fits (inf false) f = f
-sqrt-fits (fin s zero e) f = f
-sqrt-fits (fin true (suc m) e) f = nan-fits binary64
-sqrt-fits (fin false (suc m) e) f = go (sqrt-right (fin false (suc m) e) (lt→ltb 0 (suc m) (zero-lt-suc m)) f)
-  where
-    fine : (k : ℕ) → k < 1534 → 53 + k ≤ 2098
-    fine k h = omega arith
-
-    go : {x r : Float} → Right x r → T (fits binary64 r)
-    go {x} {r} h =
-        subst (λ (z : Float). T (fits binary64 z)) (sym (h .root-is))
-        (odd-fits binary64 53 false (h .q) (h .k) (h .q-high) (le-of-lt (h .q-high)) (lt-of-lt-of-le (shl-lt 53 (h .k) (h .q-high)) (pow-mono (fine (h .k) (h .k-lt)))))

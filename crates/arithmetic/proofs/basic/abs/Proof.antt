@@ -1,9 +1,10 @@
 -- `arithmetic::basic::abs` meets its contract. Assumes nothing.
 use mathlib.Core.Path.{sym, subst}
 use lib.Dec.{T}
-use lib.Ieee.{binary64, fits}
+use lib.Ieee.{binary64, fits, div}
+use Rattle.arithmetic.specs.Basic.{abs}
 use Rattle.arithmetic.specs.Laws.Compare.{is-no-nan}
-use Rattle.arithmetic.specs.Laws.Signs.{is-nan, has-bits, abs-nan, abs-bits, abs-no-nan}
+use Rattle.arithmetic.specs.Laws.Signs.{is-nan, has-bits, abs-bits, abs-no-nan}
 use Rattle.arithmetic.proofs.basic.abs.Statement.{statement}
 use Rattle.arithmetic.proofs.basic.abs.Tie as tie
 
@@ -11,7 +12,8 @@ held : (c : tie.Start) → T (fits binary64 (c .args .x))
 held c = subst T (sym (c .good .0 .1)) tt
 
 returns : tie.Need-returns
-returns c = abs-nan (c .before .args .x) (is-nan (c .before .args .x) (c .if1 .taken))
+unfolding abs div
+returns c = rw (is-nan (c .before .args .x) (c .if1 .taken))
 
 float-to-bits-result : tie.Need-float-to-bits-result
 float-to-bits-result c = has-bits (c .before .args .x) (c .if1 .left)

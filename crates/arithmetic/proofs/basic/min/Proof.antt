@@ -1,18 +1,11 @@
 -- `arithmetic::basic::min` meets its contract. Assumes nothing.
-use mathlib.Core.Path.{_≡_, sym, _∙_}
-use mathlib.Core.Bool.{false}
+use mathlib.Core.Path.{sym, _∙_}
 use lib.Ieee.{isNan}
 use Rattle.arithmetic.specs.Basic.{min}
 use Rattle.arithmetic.specs.Laws.Compare.{is-no-nan}
 use Rattle.arithmetic.specs.Laws.Signs.{is-nan, has-bits}
 use Rattle.arithmetic.proofs.basic.min.Statement.{statement}
 use Rattle.arithmetic.proofs.basic.min.Tie as tie
-
-first : (c : tie.Else2) → isNan (c .before .before .args .x) ≡ false
-first c = is-no-nan (c .before .before .args .x) (c .before .if1 .left)
-
-second : (c : tie.Else2) → isNan (c .before .before .args .y) ≡ false
-second c = is-no-nan (c .before .before .args .y) (c .if2 .left)
 
 returns : tie.Need-returns
 unfolding min isNan
@@ -27,11 +20,11 @@ takes-first-requires c κs = has-bits (c .before .before .args .x) (c .before .i
 
 returns-3 : tie.Need-returns-3
 unfolding min
-returns-3 c = rw (first (c .before .before), second (c .before .before), sym (c .before .takes-first .ensures) ∙ c .if3 .taken)
+returns-3 c = let s = c .before .before in rw (is-no-nan _ (s .before .if1 .left), is-no-nan _ (s .if2 .left), sym (c .before .takes-first .ensures) ∙ c .if3 .taken)
 
 returns-4 : tie.Need-returns-4
 unfolding min
-returns-4 c = rw (first (c .before .before), second (c .before .before), sym (c .before .takes-first .ensures) ∙ c .if3 .left)
+returns-4 c = let s = c .before .before in rw (is-no-nan _ (s .before .if1 .left), is-no-nan _ (s .if2 .left), sym (c .before .takes-first .ensures) ∙ c .if3 .left)
 
 pub min-spec : {M : Type 1} → statement M
 min-spec = tie.close (tie.spec returns returns-2 takes-first-requires returns-3 returns-4)

@@ -6,7 +6,7 @@ use lib.Ieee.{binary64, fits, isNan, neg}
 use Rattle.arithmetic.specs.Operations.{one}
 use Rattle.arithmetic.specs.Basic.{minus?, signum}
 use Rattle.arithmetic.specs.Laws.Compare.{is-no-nan}
-use Rattle.arithmetic.specs.Laws.Signs.{is-nan, has-bits, signum-nan, signum-is, sign-clear, sign-set}
+use Rattle.arithmetic.specs.Laws.Signs.{is-nan, has-bits, signum-is, sign-clear, sign-set}
 use Rattle.arithmetic.proofs.basic.signum.Statement.{statement}
 use Rattle.arithmetic.proofs.basic.signum.Tie as tie
 
@@ -20,7 +20,8 @@ signed : (c : tie.Else1) → signum (c .before .args .x) ≡ cond (minus? (c .be
 signed c = signum-is (c .before .args .x) (no-nan c)
 
 returns : tie.Need-returns
-returns c = signum-nan (c .before .args .x) (is-nan (c .before .args .x) (c .if1 .taken))
+unfolding signum
+returns c = rw (is-nan (c .before .args .x) (c .if1 .taken))
 
 float-to-bits-if2 : tie.Need-float-to-bits-if2
 float-to-bits-if2 c = has-bits (c .before .args .x) (c .if1 .left)

@@ -1,7 +1,8 @@
 -- `arithmetic::basic::whole_part` meets its contract: a law of `Truncating` for each way through the code. Assumes nothing.
 use mathlib.Core.Path.{sym, subst}
 use lib.Bits.{mask-lt}
-use lib.Dec.{T}
+use native.Mathlib.Nat.{lt-of-lt-of-le}
+use lib.Dec.{T, lit≤}
 use lib.Ieee.{binary64, fits, toBits}
 use Rattle.arithmetic.proofs.Truncating.{below-the-unit, at-the-unit, above-the-unit}
 use native.Mathlib.Omega.{arith}
@@ -12,20 +13,11 @@ use Rattle.arithmetic.proofs.basic.whole_part.Tie as tie
 held : (c : tie.Start) → T (fits binary64 (c .args .x))
 held c = subst T (sym (c .good .0 .1)) tt
 
-float-to-bits-bits : tie.Need-float-to-bits-bits
-float-to-bits-bits c = search needs
-
 add-result : tie.Need-add-result
 add-result c = omega (arith, mask-lt (toBits binary64 (c .before .before .args .x)) 52)
 
-sub-result : tie.Need-sub-result
-sub-result c = search needs
-
-shr-result : tie.Need-shr-result
-shr-result c = search needs
-
 returns : tie.Need-returns
-returns c = below-the-unit (c .before .args .x) (held (c .before)) (c .before .pre) (c .if1 .taken)
+returns c = below-the-unit (c .before .args .x) (held (c .before)) (c .before .pre) (lt-of-lt-of-le (c .if1 .taken) (lit≤ tt))
 
 returns-2 : tie.Need-returns-2
 returns-2 c = at-the-unit (c .before .before .args .x) (held (c .before .before)) (c .before .before .pre) (c .before .if1 .left) (c .if2 .taken)
@@ -36,4 +28,4 @@ returns-3 c = above-the-unit (c .before .before .args .x) (held (c .before .befo
 pub whole-part-spec : {M : Type 1} → statement M
 whole-part-spec =
     tie.close
-    (tie.spec float-to-bits-bits add-result sub-result shr-result returns returns-2 returns-3)
+    (tie.spec (λ c. search needs) add-result (λ c. search needs) (λ c. search needs) returns returns-2 returns-3)

@@ -4,12 +4,6 @@ use borrow.Author.Needs.{needs}
 use Rattle.arithmetic.proofs.exp.exponent.Statement.{statement}
 use Rattle.arithmetic.proofs.exp.exponent.Tie as tie
 
-sub-result : tie.Need-sub-result
-sub-result c = search needs
-
-add-result : tie.Need-add-result
-add-result c = search needs
-
 returns : tie.Need-returns
 returns c = rw (c .if1 .taken) refl
 
@@ -17,4 +11,4 @@ returns-2 : tie.Need-returns-2
 returns-2 c = rw (c .if1 .left) refl
 
 pub exponent-spec : {M : Type 1} → statement M
-exponent-spec = tie.close (tie.spec sub-result add-result returns returns-2)
+exponent-spec = tie.close (tie.spec (λ c. search needs) (λ c. search needs) returns returns-2)

@@ -43,20 +43,8 @@ at-low c = low (c .before .args .e) (omega arith) (c .if1 .taken)
 at-high : (c : tie.Else1) → IsPower ((c .before .args .e - 52) * 2 ^ 52) (c .before .args .e)
 at-high c = high (c .before .args .e) (c .if1 .left) (omega arith)
 
-sub-result : tie.Need-sub-result
-sub-result c = search needs
-
-shl-result : tie.Need-shl-result
-shl-result c = search needs
-
 float-from-bits-result : tie.Need-float-from-bits-result
 float-from-bits-result c = number (1 * 2 ^ (c .before .args .e - 1) % 2 ^ 64) (c .before .args .e) (at-low c)
-
-sub-result-2 : tie.Need-sub-result-2
-sub-result-2 c = search needs
-
-mul-result : tie.Need-mul-result
-mul-result c = search needs
 
 float-from-bits-result-2 : tie.Need-float-from-bits-result-2
 float-from-bits-result-2 c = number ((c .before .args .e - 52) * 2 ^ 52) (c .before .args .e) (at-high c)
@@ -70,12 +58,5 @@ returns-2 c = at-high c
 pub power-spec : {M : Type 1} → statement M
 power-spec =
     tie.close
-    (tie.spec
-    sub-result
-    shl-result
-    float-from-bits-result
-    sub-result-2
-    mul-result
-    float-from-bits-result-2
-    returns
-    returns-2)
+    (tie.spec (λ c. search needs) (λ c. search needs) float-from-bits-result (λ c. search needs) (λ c. search needs)
+    float-from-bits-result-2 returns returns-2)

@@ -11,20 +11,8 @@ use borrow.Author.Needs.{needs}
 use Rattle.arithmetic.proofs.ln.fields.Statement.{statement}
 use Rattle.arithmetic.proofs.ln.fields.Tie as tie
 
-sub-t : tie.Need-sub-t
-sub-t c = search needs
-
-add-t4 : tie.Need-add-t4
-add-t4 c = search needs
-
 float-from-bits-t5 : tie.Need-float-from-bits-t5
 float-from-bits-t5 c = low-no-nan _ (omega arith)
-
-cast-t7 : tie.Need-cast-t7
-cast-t7 c = search needs
-
-int-to-float-t8 : tie.Need-int-to-float-t8
-int-to-float-t8 c = search needs
 
 literal : ofBits binary64 4652438317399277568 ≡ ofInt binary64 (pos 1074)
 unfolding ofBits ofInt
@@ -36,4 +24,5 @@ returns c =
     (refl, ap (sub binary64 (ofInt binary64 (pos n))) literal ∙ sub-whole n 1074 (omega arith) (lit≤ tt))
 
 pub fields-spec : {M : Type 1} → statement M
-fields-spec = tie.close (tie.spec sub-t add-t4 float-from-bits-t5 cast-t7 int-to-float-t8 returns)
+fields-spec = tie.close (tie.spec (λ c. search needs) (λ c. search needs) float-from-bits-t5 (λ c. search needs) (λ c. search needs)
+    returns)

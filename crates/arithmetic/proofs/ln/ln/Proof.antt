@@ -1,7 +1,6 @@
 -- `arithmetic::ln::ln` meets its contract: a law of `LnPaths` for each way through the code. Assumes nothing.
 use lib.Ieee.{nanBits}
 use Rattle.arithmetic.proofs.LnPaths.{ln-zero, ln-below, above, ln-parts, ln-itself}
-use borrow.Author.Needs.{needs}
 use Rattle.arithmetic.proofs.ln.ln.Statement.{statement}
 use Rattle.arithmetic.proofs.ln.ln.Tie as tie
 
@@ -22,9 +21,6 @@ float-from-bits-if3 c = tt
 split-requires : tie.Need-split-requires
 split-requires c κs = above (c .before .before .before .args .x) (c .before .before .if1 .left) (c .before .if2 .left) (c .if3 .taken)
 
-series-requires : tie.Need-series-requires
-series-requires c κs = search needs
-
 returns-3 : tie.Need-returns-3
 returns-3 c =
     let d = c .before .before .before .before in
@@ -39,12 +35,5 @@ returns-4 c = ln-itself (c .before .before .before .args .x) (c .before .before 
 pub ln-spec : {M : Type 1} → statement M
 ln-spec =
     tie.close
-    (tie.spec
-    float-from-bits-result
-    returns
-    returns-2
-    float-from-bits-if3
-    split-requires
-    series-requires
-    returns-3
+    (tie.spec float-from-bits-result returns returns-2 float-from-bits-if3 split-requires (λ c κs. tt) returns-3
     returns-4)

@@ -2,12 +2,8 @@
 use mathlib.Core.Path.{_∙_}
 use lib.Ieee.{ofBits, neg}
 use Rattle.arithmetic.proofs.LnPaths.{ln1p-low, ln1p-high, ln1p-over, ln1p-under, sum-positive}
-use borrow.Author.Needs.{needs}
 use Rattle.arithmetic.proofs.ln.ln_1p.Statement.{statement}
 use Rattle.arithmetic.proofs.ln.ln_1p.Tie as tie
-
-series-requires : tie.Need-series-requires
-series-requires c κs = search needs
 
 returns : tie.Need-returns
 unfolding ofBits neg
@@ -15,9 +11,6 @@ returns c = let d = c .before in c .series .ensures ∙ ln1p-low (d .before .bef
 
 split-requires : tie.Need-split-requires
 split-requires c κs = sum-positive (c .before .before .before .args .u) (c .before .if2 .taken) (c .if3 .left)
-
-series-requires-2 : tie.Need-series-requires-2
-series-requires-2 c κs = search needs
 
 returns-2 : tie.Need-returns-2
 unfolding ofBits neg
@@ -34,13 +27,4 @@ unfolding ofBits neg
 returns-4 c = ln1p-under (c .before .args .u) (c .if1 .left)
 
 pub ln-1p-spec : {M : Type 1} → statement M
-ln-1p-spec =
-    tie.close
-    (tie.spec
-    series-requires
-    returns
-    split-requires
-    series-requires-2
-    returns-2
-    returns-3
-    returns-4)
+ln-1p-spec = tie.close (tie.spec (λ c κs. tt) returns split-requires (λ c κs. tt) returns-2 returns-3 returns-4)

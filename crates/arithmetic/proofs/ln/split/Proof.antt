@@ -4,11 +4,11 @@ use mathlib.Core.Bool.{not}
 use lib.Dec.{T}
 use lib.Ieee.{Float, binary64, fits, isNan}
 use lib.Ieee.Positive.{positive, positive-finite}
+use borrow.Author.Needs.{needs}
 use Rattle.arithmetic.specs.Laws.Numbers.{false-not}
 use Rattle.arithmetic.specs.Laws.Compare.{finite-no-nan}
 use Rattle.arithmetic.specs.Laws.Logarithm.{positive-bits, raised-positive, split-subnormal, split-normal}
 use native.Mathlib.Omega.{arith}
-use borrow.Author.Needs.{needs}
 use Rattle.arithmetic.proofs.ln.split.Statement.{statement}
 use Rattle.arithmetic.proofs.ln.split.Tie as tie
 
@@ -36,9 +36,6 @@ returns c =
 add-fields : tie.Need-add-fields
 add-fields c = omega (arith, positive-bits (c .before .args .x) (c .before .pre) (held (c .before)))
 
-fields-requires-2 : tie.Need-fields-requires-2
-fields-requires-2 c κs = search needs
-
 returns-2 : tie.Need-returns-2
 returns-2 c =
     let a = c .before .before in
@@ -48,11 +45,4 @@ returns-2 c =
 pub split-spec : {M : Type 1} → statement M
 split-spec =
     tie.close
-    (tie.spec
-    float-to-bits-b
-    float-to-bits-fields
-    fields-requires
-    returns
-    add-fields
-    fields-requires-2
-    returns-2)
+    (tie.spec float-to-bits-b float-to-bits-fields fields-requires returns add-fields (λ c κs. search needs) returns-2)

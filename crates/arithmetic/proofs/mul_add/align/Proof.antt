@@ -4,7 +4,8 @@ use Prim.Native.Nat.{ℕ, _-_, _*_, _^_, _<_}
 use native.Mathlib.Nat.{le-refl, lt-of-lt-of-le}
 use lib.Dec.{lit≤}
 use Rattle.arithmetic.specs.Words.{val}
-use Rattle.arithmetic.proofs.Aligning.{shift-lt, flat, near-above, far-above, near-below, far-below}
+use Rattle.arithmetic.proofs.Pairs.{flat}
+use Rattle.arithmetic.proofs.Aligning.{shift-lt, near-above, far-above, near-below, far-below}
 use borrow.Author.Needs.{needs}
 use Rattle.arithmetic.proofs.mul_add.align.Statement.{statement}
 use Rattle.arithmetic.proofs.mul_add.align.Tie as tie
@@ -49,18 +50,6 @@ returns-4 c =
 pub align-spec : {M : Type 1} → statement M
 align-spec =
     tie.close
-    (tie.spec
-    up-requires
-    (λ c. search needs)
-    (λ c κs. search needs)
-    (λ c. search needs)
-    (λ c. search needs)
-    up-requires-2
-    up-requires-3
-    (λ c. search needs)
-    (λ c κs. search needs)
-    (λ c. search needs)
-    returns
-    returns-2
-    returns-3
-    returns-4)
+    (tie.spec up-requires (λ c. search needs) (λ c κs. search needs) (λ c. search needs) (λ c. search needs)
+    up-requires-2 up-requires-3 (λ c. search needs) (λ c κs. search needs) (λ c. search needs) returns returns-2
+    returns-3 returns-4)

@@ -47,15 +47,5 @@ returns-2 c =
 pub cut-spec : {M : Type 1} → statement M
 cut-spec =
     tie.close
-    (tie.spec
-    (λ c. search needs)
-    (λ c. search needs)
-    (λ c. search needs)
-    jam-requires
-    (λ c. search needs)
-    (λ c. search needs)
-    (λ c. search needs)
-    up-requires
-    (λ c. search needs)
-    returns
-    returns-2)
+    (tie.spec (λ c. search needs) (λ c. search needs) (λ c. search needs) jam-requires (λ c. search needs)
+    (λ c. search needs) (λ c. search needs) up-requires (λ c. search needs) returns returns-2)

@@ -96,19 +96,6 @@ returns-4 c =
 pub mul-add-spec : {M : Type 1} → statement M
 mul-add-spec =
     tie.close
-    (tie.spec
-    (λ c κs. search needs)
-    (λ c κs. search needs)
-    (λ c κs. search needs)
-    decode-requires
-    decode-requires-2
-    decode-requires-3
-    (λ c κs. search needs)
-    (λ c κs. search needs)
-    (λ c. search needs)
-    align-requires
-    (λ c κs. search needs)
-    returns
-    returns-2
-    returns-3
-    returns-4)
+    (tie.spec (λ c κs. search needs) (λ c κs. search needs) (λ c κs. search needs) decode-requires decode-requires-2
+    decode-requires-3 (λ c κs. search needs) (λ c κs. search needs) (λ c. search needs) align-requires
+    (λ c κs. search needs) returns returns-2 returns-3 returns-4)

@@ -39,13 +39,5 @@ add-cut c = record { fits = sum-fits (c .before .before .digits .result) (size (
 pub shorten-spec : {M : Type 1} → statement M
 shorten-spec =
     tie.close
-    (tie.spec
-    (λ c κs. search needs)
-    returns
-    add-if2
-    (λ c κs. search needs)
-    add-cut
-    (λ c. search needs)
-    (λ c κs. search needs)
-    (λ c. search needs)
-    (λ c. search needs))
+    (tie.spec (λ c κs. search needs) returns add-if2 (λ c κs. search needs) add-cut (λ c. search needs)
+    (λ c κs. search needs) (λ c. search needs) (λ c. search needs))

@@ -20,4 +20,5 @@ returns-2 c =
 
 pub signed-spec : {M : Type 1} → statement M
 signed-spec =
-    tie.close (tie.spec (λ c. search needs) (λ c. bits-no-nan _ (omega arith)) (λ c. bits-no-nan _ (omega arith)) returns returns-2)
+    tie.close (tie.spec (λ c. search needs) (λ c. bits-no-nan _ (omega arith)) (λ c. bits-no-nan _ (omega arith)) returns
+    returns-2)

@@ -52,16 +52,5 @@ returns-3 c =
 pub total-spec : {M : Type 1} → statement M
 total-spec =
     tie.close
-    (tie.spec
-    add-requires
-    (λ c κs. search needs)
-    (λ c κs. search needs)
-    sub-requires
-    (λ c κs. search needs)
-    (λ c κs. search needs)
-    (λ c κs. search needs)
-    sub-requires-2
-    (λ c κs. search needs)
-    returns
-    returns-2
-    returns-3)
+    (tie.spec add-requires (λ c κs. search needs) (λ c κs. search needs) sub-requires (λ c κs. search needs)
+    (λ c κs. search needs) (λ c κs. search needs) sub-requires-2 (λ c κs. search needs) returns returns-2 returns-3)

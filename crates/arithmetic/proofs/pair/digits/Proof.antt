@@ -23,12 +23,7 @@ returns-2 c =
     digits-high (s .args .a .hi) (s .args .a .lo) (c .before .if1 .left) (ah s) (al s)
 
 pub digits-spec : {M : Type 1} → statement M
-digits-spec =
-    tie.close
-    (tie.spec
-    (λ c. omega (arith, leading-le 64 (c .before .before .before .args .a .lo)))
+digits-spec = tie.close (tie.spec (λ c. omega (arith, leading-le 64 (c .before .before .before .args .a .lo)))
     (λ c. leading-le 64 (c .before .before .before .args .a .lo))
     (λ c. omega (arith, leading-le 64 (c .before .before .before .args .a .hi)))
-    (λ c. omega (arith, leading-le 64 (c .before .before .before .args .a .hi)))
-    returns
-    returns-2)
+    (λ c. omega (arith, leading-le 64 (c .before .before .before .args .a .hi))) returns returns-2)

@@ -1,12 +1,12 @@
 -- `arithmetic::pair::down` meets its contract. Assumes nothing.
-use mathlib.Core.Path.{_≡_, sym, ap, _∙_}
+use mathlib.Core.Path.{sym, ap, _∙_}
 use Prim.Native.Nat.{ℕ, _+_, _*_, _/_, _^_, _-_, _<_}
 use native.Mathlib.Nat.{le-of-lt, lt-of-lt-of-le, div-one, div-eq-of-lt}
 use native.Mathlib.Omega.{arith}
 use lib.Arith.{digits-lt}
 use lib.Pow.{pow-pos, pow-mono}
 use borrow.Author.Needs.{needs}
-use Rattle.arithmetic.proofs.Pairs.{down-fits, down-is, down-far, pow-rest, pow-over}
+use Rattle.arithmetic.proofs.Pairs.{flat, down-fits, down-is, down-far, pow-rest, pow-over}
 use Rattle.arithmetic.proofs.pair.down.Statement.{statement}
 use Rattle.arithmetic.proofs.pair.down.Tie as tie
 
@@ -33,9 +33,6 @@ returns-2 c =
     let d = s .args .d in
     down-is (2 ^ 64) (2 ^ d) (2 ^ (64 - d)) (s .args .a .hi) (s .args .a .lo) (pow-pos d) (pow-pos (64 - d)) (pow-rest d (le-of-lt (c .before .before .before .if2 .taken))) (al s)
 
-flat : (x : ℕ) → 0 * 18446744073709551616 + x ≡ x
-flat x = omega arith
-
 returns-3 : tie.Need-returns-3
 returns-3 c =
     let s = c .before .before .before .before in
@@ -52,4 +49,5 @@ returns-4 c =
 pub down-spec : {M : Type 1} → statement M
 down-spec =
     tie.close
-    (tie.spec (λ c. search needs) (λ c. search needs) (λ c. search needs) (λ c. search needs) add-t11 (λ c. search needs) returns returns-2 returns-3 returns-4)
+    (tie.spec (λ c. search needs) (λ c. search needs) (λ c. search needs) (λ c. search needs) add-t11
+    (λ c. search needs) returns returns-2 returns-3 returns-4)

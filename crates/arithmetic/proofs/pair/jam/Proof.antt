@@ -49,13 +49,5 @@ returns-2 c =
 pub jam-spec : {M : Type 1} → statement M
 jam-spec =
     tie.close
-    (tie.spec
-    (λ c. search needs)
-    (λ c κs. search needs)
-    up-requires
-    (λ c. search needs)
-    (λ c κs. search needs)
-    (λ c κs. search needs)
-    add-t8
-    returns
-    returns-2)
+    (tie.spec (λ c. search needs) (λ c κs. search needs) up-requires (λ c. search needs) (λ c κs. search needs)
+    (λ c κs. search needs) add-t8 returns returns-2)

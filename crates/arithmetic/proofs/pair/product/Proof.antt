@@ -18,12 +18,9 @@ returns c = c .add .ensures ∙ product-is (c .before .args .u) (c .before .args
 pub product-spec : {M : Type 1} → statement M
 product-spec =
     tie.close
-    (tie.spec
+    (tie.spec (λ c. omega (arith, parts-small (c .args .u) (c .args .v) (c .pre .0) (c .pre .1)))
     (λ c. omega (arith, parts-small (c .args .u) (c .args .v) (c .pre .0) (c .pre .1)))
     (λ c. omega (arith, parts-small (c .args .u) (c .args .v) (c .pre .0) (c .pre .1)))
     (λ c. omega (arith, parts-small (c .args .u) (c .args .v) (c .pre .0) (c .pre .1)))
     (λ c. omega (arith, parts-small (c .args .u) (c .args .v) (c .pre .0) (c .pre .1)))
-    (λ c. omega (arith, parts-small (c .args .u) (c .args .v) (c .pre .0) (c .pre .1)))
-    (λ c. omega (arith, parts-small (c .args .u) (c .args .v) (c .pre .0) (c .pre .1)))
-    add-requires
-    returns)
+    (λ c. omega (arith, parts-small (c .args .u) (c .args .v) (c .pre .0) (c .pre .1))) add-requires returns)

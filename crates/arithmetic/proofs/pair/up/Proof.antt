@@ -40,4 +40,5 @@ returns-3 c =
 
 pub up-spec : {M : Type 1} → statement M
 up-spec =
-    tie.close (tie.spec (λ c. search needs) (λ c. search needs) (λ c. search needs) add-t10 (λ c. search needs) (λ c. search needs) returns returns-2 returns-3)
+    tie.close (tie.spec (λ c. search needs) (λ c. search needs) (λ c. search needs) add-t10 (λ c. search needs)
+    (λ c. search needs) returns returns-2 returns-3)

@@ -17,28 +17,14 @@ quotient-requires : tie.Need-quotient-requires
 quotient-requires c κs = bounds (c .before .args .w) (c .whole-root .result) (c .before .pre .0) (c .before .pre .1) (c .whole-root .ensures)
 
 returns : tie.Need-returns
-returns c = closest-of (c .before .before .before .args .w) _ (c .before .before .before .pre .0) (c .before .before .before .pre .1) (omega (arith, known (c .before))) (up _ _ _ _ (known (c .before)) (c .if1 .taken))
+returns c = closest-of (c .before .before .before .args .w) _ (c .before .before .before .pre .0) (c .before .before .before .pre .1) (up _ _ _ _ (known (c .before)) (c .if1 .taken))
 
 returns-2 : tie.Need-returns-2
-returns-2 c = closest-of (c .before .before .before .args .w) _ (c .before .before .before .pre .0) (c .before .before .before .pre .1) (omega (arith, known (c .before))) (stay _ _ _ _ (known (c .before)) (c .if1 .left))
+returns-2 c = closest-of (c .before .before .before .args .w) _ (c .before .before .before .pre .0) (c .before .before .before .pre .1) (stay _ _ _ _ (known (c .before)) (c .if1 .left))
 
 pub closest-spec : {M : Type 1} → statement M
-closest-spec =
-    tie.close
-    (tie.spec
-    (λ c κs. search needs)
-    (λ c. search needs)
-    (λ c. search needs)
-    quotient-requires
-    (λ c. omega (arith, known c))
-    (λ c. omega (arith, known c))
-    (λ c. omega (arith, known c))
-    (λ c. omega (arith, known c))
-    (λ c. omega (arith, known c))
-    (λ c. omega (arith, known c))
-    (λ c. omega (arith, known c))
-    (λ c. omega (arith, known c))
-    (λ c. omega (arith, known c))
-    (λ c. omega (arith, known (c .before)))
-    returns
-    returns-2)
+closest-spec = tie.close (tie.spec (λ c κs. search needs) (λ c. search needs) (λ c. search needs) quotient-requires
+    (λ c. omega (arith, known c)) (λ c. omega (arith, known c)) (λ c. omega (arith, known c))
+    (λ c. omega (arith, known c)) (λ c. omega (arith, known c)) (λ c. omega (arith, known c))
+    (λ c. omega (arith, known c)) (λ c. omega (arith, known c)) (λ c. omega (arith, known c))
+    (λ c. omega (arith, known (c .before))) returns returns-2)

@@ -24,12 +24,5 @@ returns c =
 pub of-digits-spec : {M : Type 1} → statement M
 of-digits-spec =
     tie.close
-    (tie.spec
-    (λ c. search needs)
-    (λ c. search needs)
-    (λ c. search needs)
-    (λ c κs. search needs)
-    closest-requires
-    (λ c. search needs)
-    float-from-bits-result
-    returns)
+    (tie.spec (λ c. search needs) (λ c. search needs) (λ c. search needs) (λ c κs. search needs) closest-requires
+    (λ c. search needs) float-from-bits-result returns)

@@ -43,7 +43,7 @@ returns-3 c =
 returns-4 : tie.Need-returns-4
 returns-4 c =
     let a = c .before .before .before .before in
-    c .of-digits .ensures ∙ sym (of-normal (toBits binary64 (a .args .x)) (c .before .before .if2 .left) (c .before .if4 .taken)) ∙ ap sqrt (back a)
+    c .of-normal .ensures ∙ sym (of-normal (toBits binary64 (a .args .x)) (c .before .before .if2 .left) (c .before .if4 .taken)) ∙ ap sqrt (back a)
 
 returns-5 : tie.Need-returns-5
 returns-5 c =
@@ -59,15 +59,5 @@ returns-6 c =
 pub sqrt-spec : {M : Type 1} → statement M
 sqrt-spec =
     tie.close
-    (tie.spec
-    returns
-    float-to-bits-b
-    returns-2
-    (λ c κs. search needs)
-    returns-3
-    (λ c. search needs)
-    (λ c. search needs)
-    (λ c κs. search needs)
-    returns-4
-    returns-5
-    returns-6)
+    (tie.spec returns float-to-bits-b returns-2 (λ c κs. search needs) returns-3 (λ c κs. search needs) returns-4
+    returns-5 returns-6)

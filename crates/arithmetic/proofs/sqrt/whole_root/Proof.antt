@@ -40,21 +40,6 @@ loop2-again c = omega (arith, below (c .before .before .before .before .before .
 pub whole-root-spec : {M : Type 1} → statement M
 whole-root-spec =
     tie.close
-    (tie.spec
-    Inv-loop
-    μ-loop
-    Inv-loop2
-    μ-loop2
-    loop-holds
-    mul-loop
-    sub-r
-    loop-less
-    (λ c. omega arith)
-    (λ c. omega arith)
-    (λ c. omega arith)
-    (λ c. omega arith)
-    (λ c. omega arith)
-    (λ c. omega arith)
-    loop2-less
-    loop2-again
-    (λ c. omega arith))
+    (tie.spec Inv-loop μ-loop Inv-loop2 μ-loop2 loop-holds mul-loop sub-r loop-less (λ c. omega arith)
+    (λ c. omega arith) (λ c. omega arith) (λ c. omega arith) (λ c. omega arith) (λ c. omega arith) loop2-less
+    loop2-again (λ c. omega arith))

@@ -1,3 +1,2 @@
-pub mod Polynomials
 pub mod Thresholds
 pub mod Expansion

@@ -10,7 +10,7 @@ use Rattle.arithmetic.specs.Exp.{exp}
 use Rattle.arithmetic.specs.Ln.{ln, ln1p}
 use Rattle.special_function.specs.Constants.{frac1Sqrt2, frac1Sqrt2Pi, sqrtPiOver2}
 use Rattle.special_function.specs.ErrorFunction.{erfcCody, erfcxCody}
-use Rattle.special_function.specs.Polynomial.{evaluate}
+use Rattle.special_function.specs.Polynomial.{evaluate, nested}
 use Rattle.bs_option_price.specs.Table.{row}
 
 -- ---- constants
@@ -34,16 +34,11 @@ isRegion2 h t = lt (mulAdd2Sel h (neg half ⊘ eta) (neg tau ⊕ t)) nought
 
 -- ---- the asymptotic expansion
 
--- a polynomial, from its highest coefficient down: `z.mul_add2_sel(c, d)`, then `.mul_add2_sel(z, ..)` for each coefficient that is left
-unfoldable pub horner : Float → List Float → Float
-horner z [] = nought
-horner z (c ∷ []) = c
-horner z (c ∷ d ∷ cs) = evaluate (mulAdd2Sel z c d) cs z
-
--- the source's a0 to a16
+-- the source's a0 to a16. Its polynomials here are written `z.mul_add2_sel(c, d)`, then `.mul_add2_sel(z, ..)` for each coefficient that
+-- is left: by `nested-chain` that is `nested`
 unfoldable pub a : ℕ → Float → Float
 unfolding row
-a k e = horner e (row k)
+a k e = nested e (row k)
 
 unfoldable pub thresholds : List Float
 thresholds =
@@ -83,7 +78,7 @@ unfoldable pub tail : ℕ → Float → Float → Float
 tail idx q e = cond (ltb idx 12) (q ⊗ omegaOverQ idx q e 12) nought
 
 unfoldable pub omega : Float → Float → Float → Float
-omega tail q e = horner q ((a 4 e ⊕ tail) ∷ a 3 e ∷ a 2 e ∷ a 1 e ∷ a 0 e ∷ [])
+omega tail q e = nested q ((a 4 e ⊕ tail) ∷ a 3 e ∷ a 2 e ∷ a 1 e ∷ a 0 e ∷ [])
 
 unfoldable pub asymptoticExpansionOfScaledNormalisedBlack : Float → Float → Float
 asymptoticExpansionOfScaledNormalisedBlack h t =
@@ -99,7 +94,7 @@ asymptoticExpansionOfScaledNormalisedBlack h t =
 unfoldable pub yPrimeTailExpansionRationalFunctionPartPlus1 : Float → Float
 yPrimeTailExpansionRationalFunctionPartPlus1 w =
     mulAdd2Sel
-    (horner w
+    (nested w
     (neg (bits 0x40F0_5023_FC09_A010)  -- -6.681_824_903_261_685E4
     ∷ neg (bits 0x40F4_77C0_57E7_380F)  -- -8.383_602_146_074_198E4
     ∷ neg (bits 0x40DB_276F_B972_C202)  -- -2.780_574_569_386_430_8E4
@@ -107,7 +102,7 @@ yPrimeTailExpansionRationalFunctionPartPlus1 w =
     ∷ neg (bits 0x4065_F201_176A_38F9)  -- -1.755_626_332_354_220_6E2
     ∷ neg (bits 0x4007_FFFF_FFFF_FB4E)  -- -2.999_999_999_999_466
     ∷ [])
-    ⊘ horner w
+    ⊘ nested w
     (bits 0x40F0_EA68_4C83_31A3  -- 6.928_651_867_980_375E4
     ∷ bits 0x40FE_B03B_42CD_7A08  -- 1.256_997_038_092_390_9E5
     ∷ bits 0x40F0_546C_B4E7_0AD9  -- 6.688_679_416_565_168E4
@@ -160,11 +155,11 @@ b1 a h2 = mulAdd2Sel a (bits 0x4008_0000_0000_0000 ⊕ h2) (neg (bits 0x3FF0_000
 
 -- ([10.0 + h2, 15.0] · a + (-7.0 - h2)) / 60.0, a bracket being a polynomial of h2
 unfoldable pub b2 : Float → Float → Float
-b2 a h2 = mulAdd2Sel (horner h2 ((bits 0x4024_0000_0000_0000 ⊕ h2) ∷ bits 0x402E_0000_0000_0000 ∷ [])) a (neg (bits 0x401C_0000_0000_0000) ⊖ h2) ⊘ bits 0x404E_0000_0000_0000
+b2 a h2 = mulAdd2Sel (nested h2 ((bits 0x4024_0000_0000_0000 ⊕ h2) ∷ bits 0x402E_0000_0000_0000 ∷ [])) a (neg (bits 0x401C_0000_0000_0000) ⊖ h2) ⊘ bits 0x404E_0000_0000_0000
 
 -- what b3 to b6 share: a polynomial of h2 times a, plus another, over a divisor
 unfoldable pub b : Float → Float → List Float → List Float → Float → Float
-b a h2 factor rest divisor = mulAdd2Sel (horner h2 factor) a (horner h2 rest) ⊘ divisor
+b a h2 factor rest divisor = mulAdd2Sel (nested h2 factor) a (nested h2 rest) ⊘ divisor
 
 -- ([21.0 + h2, 105.0, 105.0] · a + [-18.0 - h2, -57.0]) / 2520.0
 abbrev pub b3 : Float → Float → Float
@@ -203,7 +198,7 @@ unfoldable pub smallTExpansionOfScaledNormalisedBlack : Float → Float → Floa
 smallTExpansionOfScaledNormalisedBlack h t =
     let a = yPrime h in
     let h2 = h ⊗ h in
-    horner (t ⊗ t) (b6 a h2 ∷ b5 a h2 ∷ b4 a h2 ∷ b3 a h2 ∷ b2 a h2 ∷ b1 a h2 ∷ b0 a ∷ []) ⊗ t
+    nested (t ⊗ t) (b6 a h2 ∷ b5 a h2 ∷ b4 a h2 ∷ b3 a h2 ∷ b2 a h2 ∷ b1 a h2 ∷ b0 a ∷ []) ⊗ t
 
 -- ---- Cody's functions
 

@@ -1,17 +1,17 @@
 -- The rule of the table at each of its entries, and the price at t = 0.
 use mathlib.Core.Path.{_≡_, refl}
-use mathlib.Core.Bool.{Bool, true, false, _&&_}
+use mathlib.Core.Bool.{Bool}
 use Prim.Native.Nat.{ℕ, zero, suc, _<_, _≤_}
 use native.Mathlib.Nat.{le-of-suc-le-suc, not-suc-le-zero}
 use native.Mathlib.Omega.{arith}
 use lib.Dec.{T, eqb, eqb→eq}
-use lib.Ieee.{Float, ofBits, eq, mul}
+use lib.Ieee.{ofBits, mul}
 use lib.Ieee.Fits.{and-l, and-r}
 use lib.ListN.{length}
-use Rattle.arithmetic.specs.Operations.{_⊗_, nought, two}
+use Rattle.arithmetic.specs.Operations.{_⊗_, two}
 use Rattle.special_function.specs.Constants.{sixteenthRootDblEpsilon}
 use Rattle.bs_option_price.specs.Table.{patterns, right, entry, nearestEntry, allBelow, allRight, allNearest}
-use Rattle.bs_option_price.specs.BsOptionPrice.{tau, normalisedBlack}
+use Rattle.bs_option_price.specs.BsOptionPrice.{tau}
 
 -- one test, computed
 all-right : T allRight
@@ -50,8 +50,3 @@ entry-is-nearest k j k<17 j≤k =
 pub tau-is : two ⊗ sixteenthRootDblEpsilon ≡ tau
 unfolding mul ofBits
 tau-is = refl
-
--- the price at t = 0, whatever the other figures and the functions below are
-pub black-at-zero : (halfThetaX h : Float) → normalisedBlack halfThetaX h nought ≡ nought
-unfolding normalisedBlack eq ofBits
-black-at-zero halfThetaX h = refl

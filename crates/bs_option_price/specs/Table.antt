@@ -57,14 +57,17 @@ patterns =
     0x43E5_F888_2670_0C36 ∷
     []
 
+unfoldable pub table : List Float
+unfolding patterns
+table = map bits patterns
+
 -- the coefficients of ak
 unfoldable pub row : ℕ → List Float
-unfolding patterns
-row k = map bits (take (k + 1) (drop (k * (k + 1) / 2) patterns))
+row k = take (k + 1) (drop (k * (k + 1) / 2) table)
 
 -- the coefficient of e ^ j in ak
 unfoldable pub coefficient : ℕ → ℕ → Float
-unfolding row ofBits
+unfolding row table ofBits
 coefficient k j = getD (row k) (k - j) nan
 
 -- (2k - 1)!!, which is 1 at 0

@@ -1,8 +1,7 @@
 // The normalised Black price and its three formulas, after bs_option_price.rs.
 ghost use mathlib.Core.Path.{_≡_};
-ghost use Prim.Native.Nat.{_≤_};
-ghost use lib.ListN.{length};
-ghost use Rattle.bs_option_price.specs.BsOptionPrice.{normalisedBlack, isRegion1, isRegion2, position, horner, term, tail, omega, asymptoticExpansionOfScaledNormalisedBlack, b0, b1, b2, b, b3, b4, b5, b6, smallTExpansionOfScaledNormalisedBlack, yPrime, yPrimeMiddle, yPrimeTailExpansionRationalFunctionPartPlus1, normalisedBlackWithOptimalUseOfCodysFunctions, normalisedBlackWithOptimalUseOfCodysFunctionsImpl, twoB, normalisedVega, negativeAbsLogMoneyness};
+ghost use Prim.Native.Nat.{_-_, _<_};
+ghost use Rattle.bs_option_price.specs.BsOptionPrice.{term, normalisedBlack, isRegion1, isRegion2, position, a, tail, omega, asymptoticExpansionOfScaledNormalisedBlack, b0, b1, b2, b, b3, b4, b5, b6, smallTExpansionOfScaledNormalisedBlack, yPrime, yPrimeMiddle, yPrimeTailExpansionRationalFunctionPartPlus1, normalisedBlackWithOptimalUseOfCodysFunctions, normalisedBlackWithOptimalUseOfCodysFunctionsImpl, twoB, normalisedVega, negativeAbsLogMoneyness};
 use arithmetic::basic::is_infinite;
 use arithmetic::basic::max;
 use arithmetic::basic::min;
@@ -19,6 +18,8 @@ use special_function::constants::SQRT_PI_OVER_2;
 use special_function::error_function::erfc_cody;
 use special_function::error_function::erfcx_cody;
 use special_function::polynomial::evaluate;
+use special_function::polynomial::nested;
+use special_function::polynomial::rational;
 
 pub fn normalised_black(half_theta_x: f64, h: f64, t: f64) -> f64
     ensures { λ r. ⌜ r ≡ normalisedBlack «half_theta_x» h t ⌝ }
@@ -265,59 +266,72 @@ fn position(value: f64) -> usize
     i
 }
 
-// A polynomial of z, from its highest coefficient down. The first product is z times the coefficient.
-fn horner(z: f64, coefficients: &[f64]) -> f64
-    requires { ⌜ 2 ≤ length (now coefficients) ⌝ }
-    ensures { λ r. ⌜ r ≡ horner z (now (coefficients .entry)) ⌝ }
+// The source's a0 to a16. A part with fixed ends is compiled to constants; one whose ends are variables would
+// store the whole table to the stack at each call.
+fn a(k: usize, e: f64) -> f64
+    requires { ⌜ k < 17 ⌝ }
+    ensures { λ r. ⌜ r ≡ a k e ⌝ }
 {
-    evaluate(
-        mul_add2_sel(z, coefficients[0], coefficients[1]),
-        &coefficients[2..],
-        z,
-    )
+    let table = TABLE;
+    match k {
+        0 => nested(e, &table[0..1]),
+        1 => nested(e, &table[1..3]),
+        2 => nested(e, &table[3..6]),
+        3 => nested(e, &table[6..10]),
+        4 => nested(e, &table[10..15]),
+        5 => nested(e, &table[15..21]),
+        6 => nested(e, &table[21..28]),
+        7 => nested(e, &table[28..36]),
+        8 => nested(e, &table[36..45]),
+        9 => nested(e, &table[45..55]),
+        10 => nested(e, &table[55..66]),
+        11 => nested(e, &table[66..78]),
+        12 => nested(e, &table[78..91]),
+        13 => nested(e, &table[91..105]),
+        14 => nested(e, &table[105..120]),
+        15 => nested(e, &table[120..136]),
+        _ => nested(e, &table[136..153]),
+    }
 }
 
-// One more coefficient of the tail, if the position is at most `last`.
-fn term(idx: usize, last: usize, omega: f64, q: f64, e: f64, coefficients: &[f64]) -> f64
-    requires { ⌜ 2 ≤ length (now coefficients) ⌝ }
-    ensures { λ r. ⌜ r ≡ term idx last omega q (horner e (now (coefficients .entry))) ⌝ }
+// One coefficient more, if the position is at most n.
+fn term(idx: usize, n: usize, omega: f64, q: f64, e: f64) -> f64
+    requires { ⌜ n < 12 ⌝ }
+    ensures { λ r. ⌜ r ≡ term idx n omega q (a (16 - n) e) ⌝ }
 {
-    if idx <= last {
-        mul_add2_sel(omega, q, horner(e, coefficients))
+    if idx <= n {
+        mul_add2_sel(omega, q, a(16 - n, e))
     } else {
         omega
     }
 }
 
+// What the coefficients down to a5 add: a16 at position 0, one fewer at each position, none from 12 on.
 fn tail(idx: usize, q: f64, e: f64) -> f64
     ensures { λ r. ⌜ r ≡ tail idx q e ⌝ }
 {
     if 12 <= idx {
         return 0.0;
     }
-    let omega = term(idx, 0, 0.0, q, e, &TABLE[136..153]);
-    let omega = term(idx, 1, omega, q, e, &TABLE[120..136]);
-    let omega = term(idx, 2, omega, q, e, &TABLE[105..120]);
-    let omega = term(idx, 3, omega, q, e, &TABLE[91..105]);
-    let omega = term(idx, 4, omega, q, e, &TABLE[78..91]);
-    let omega = term(idx, 5, omega, q, e, &TABLE[66..78]);
-    let omega = term(idx, 6, omega, q, e, &TABLE[55..66]);
-    let omega = term(idx, 7, omega, q, e, &TABLE[45..55]);
-    let omega = term(idx, 8, omega, q, e, &TABLE[36..45]);
-    let omega = term(idx, 9, omega, q, e, &TABLE[28..36]);
-    let omega = term(idx, 10, omega, q, e, &TABLE[21..28]);
-    let omega = term(idx, 11, omega, q, e, &TABLE[15..21]);
+    let omega = term(idx, 0, 0.0, q, e);
+    let omega = term(idx, 1, omega, q, e);
+    let omega = term(idx, 2, omega, q, e);
+    let omega = term(idx, 3, omega, q, e);
+    let omega = term(idx, 4, omega, q, e);
+    let omega = term(idx, 5, omega, q, e);
+    let omega = term(idx, 6, omega, q, e);
+    let omega = term(idx, 7, omega, q, e);
+    let omega = term(idx, 8, omega, q, e);
+    let omega = term(idx, 9, omega, q, e);
+    let omega = term(idx, 10, omega, q, e);
+    let omega = term(idx, 11, omega, q, e);
     q * omega
 }
 
 fn omega(tail: f64, q: f64, e: f64) -> f64
     ensures { λ r. ⌜ r ≡ omega tail q e ⌝ }
 {
-    let a4 = horner(e, &TABLE[10..15]);
-    let a3 = horner(e, &TABLE[6..10]);
-    let a2 = horner(e, &TABLE[3..6]);
-    let a1 = horner(e, &TABLE[1..3]);
-    horner(q, &[a4 + tail, a3, a2, a1, TABLE[0]])
+    nested(q, &[a(4, e) + tail, a(3, e), a(2, e), a(1, e), a(0, e)])
 }
 
 fn small_t_expansion_of_scaled_normalised_black(h: f64, t: f64) -> f64
@@ -326,7 +340,7 @@ fn small_t_expansion_of_scaled_normalised_black(h: f64, t: f64) -> f64
     let a = y_prime(h);
     let h2 = h * h;
     let t2 = t * t;
-    horner(
+    nested(
         t2,
         &[
             b6(a, h2),
@@ -356,15 +370,14 @@ fn b1(a: f64, h2: f64) -> f64
 fn b2(a: f64, h2: f64) -> f64
     ensures { λ r. ⌜ r ≡ b2 a h2 ⌝ }
 {
-    mul_add2_sel(horner(h2, &[10.0 + h2, 15.0]), a, -7.0 - h2) / 60.0
+    mul_add2_sel(nested(h2, &[10.0 + h2, 15.0]), a, -7.0 - h2) / 60.0
 }
 
 // What b3 to b6 share: a polynomial of h2 times a, plus another, over a divisor.
 fn b(a: f64, h2: f64, factor: &[f64], rest: &[f64], divisor: f64) -> f64
-    requires { ⌜ (2 ≤ length (now factor)) × (2 ≤ length (now rest)) ⌝ }
     ensures { λ r. ⌜ r ≡ b a h2 (now (factor .entry)) (now (rest .entry)) divisor ⌝ }
 {
-    mul_add2_sel(horner(h2, factor), a, horner(h2, rest)) / divisor
+    mul_add2_sel(nested(h2, factor), a, nested(h2, rest)) / divisor
 }
 
 fn b3(a: f64, h2: f64) -> f64
@@ -461,33 +474,27 @@ fn y_prime_middle(h: f64) -> f64
 fn y_prime_tail_expansion_rational_function_part_plus_1(w: f64) -> f64
     ensures { λ r. ⌜ r ≡ yPrimeTailExpansionRationalFunctionPartPlus1 w ⌝ }
 {
-    mul_add2_sel(
-        horner(
-            w,
-            &[
-                -6.681_824_903_261_685E4,
-                -8.383_602_146_074_198E4,
-                -2.780_574_569_386_430_8E4,
-                -3.473_503_544_549_563_2E3,
-                -1.755_626_332_354_220_6E2,
-                -2.999_999_999_999_466,
-            ],
-        )
-            / horner(
-                w,
-                &[
-                    6.928_651_867_980_375E4,
-                    1.256_997_038_092_390_9E5,
-                    6.688_679_416_565_168E4,
-                    1.456_254_563_850_703_4E4,
-                    1.440_438_903_760_433_7E3,
-                    6.352_087_774_483_173_6E1,
-                    1.0,
-                ],
-            ),
+    let quotient = rational(
         w,
-        1.0,
-    )
+        &[
+            -6.681_824_903_261_685E4,
+            -8.383_602_146_074_198E4,
+            -2.780_574_569_386_430_8E4,
+            -3.473_503_544_549_563_2E3,
+            -1.755_626_332_354_220_6E2,
+            -2.999_999_999_999_466,
+        ],
+        &[
+            6.928_651_867_980_375E4,
+            1.256_997_038_092_390_9E5,
+            6.688_679_416_565_168E4,
+            1.456_254_563_850_703_4E4,
+            1.440_438_903_760_433_7E3,
+            6.352_087_774_483_173_6E1,
+            1.0,
+        ],
+    );
+    mul_add2_sel(quotient, w, 1.0)
 }
 
 const TAU: f64 = 2.0 * SIXTEENTH_ROOT_DBL_EPSILON;

@@ -13,6 +13,7 @@ use arithmetic::basic::recip;
 use arithmetic::basic::signum;
 use arithmetic::basic::trunc;
 use arithmetic::exp::exp;
+use arithmetic::exp::exp_product;
 use arithmetic::fused_multiply_add::mul_add2_sel;
 
 const A: [f64; 5] = [
@@ -33,8 +34,10 @@ const B: [f64; 4] = [
 fn ab(z: f64) -> f64
     ensures { λ r. ⌜ r ≡ ab z ⌝ }
 {
-    evaluate(mul_add2_sel(z, A[4], A[0]), &A[1..4], z)
-        / evaluate(mul_add2_sel(z, 1.0, B[0]), &B[1..4], z)
+    let a = A;
+    let b = B;
+    evaluate(mul_add2_sel(z, a[4], a[0]), &a[1..4], z)
+        / evaluate(mul_add2_sel(z, 1.0, b[0]), &b[1..4], z)
 }
 
 const C: [f64; 9] = [
@@ -63,7 +66,9 @@ const D: [f64; 8] = [
 fn cd(y: f64) -> f64
     ensures { λ r. ⌜ r ≡ cd y ⌝ }
 {
-    evaluate(C[8], &C[0..8], y) / evaluate(y + D[0], &D[1..8], y)
+    let c = C;
+    let d = D;
+    evaluate(c[8], &c[0..8], y) / evaluate(y + d[0], &d[1..8], y)
 }
 
 const P: [f64; 6] = [
@@ -86,21 +91,23 @@ const Q: [f64; 5] = [
 fn pq(z: f64) -> f64
     ensures { λ r. ⌜ r ≡ pq z ⌝ }
 {
-    z * evaluate(P[5], &P[0..5], z) / evaluate(z + Q[0], &Q[1..5], z)
+    let p = P;
+    let q = Q;
+    z * evaluate(p[5], &p[0..5], z) / evaluate(z + q[0], &q[1..5], z)
 }
 
 fn smoothened_exponential_of_negative_square(y: f64) -> f64
     ensures { λ r. ⌜ r ≡ smoothenedExponentialOfNegativeSquare y ⌝ }
 {
     let y_tilde = trunc(y * 16.0) * 0.0625;
-    exp(-(y_tilde * y_tilde)) * exp(-(y - y_tilde) * (y + y_tilde))
+    exp_product(-(y_tilde * y_tilde), -(y - y_tilde) * (y + y_tilde))
 }
 
 fn smoothened_exponential_of_positive_square(x: f64) -> f64
     ensures { λ r. ⌜ r ≡ smoothenedExponentialOfPositiveSquare x ⌝ }
 {
     let x_tilde = trunc(x * 16.0) * 0.0625;
-    exp(x_tilde * x_tilde) * exp((x - x_tilde) * (x + x_tilde))
+    exp_product(x_tilde * x_tilde, (x - x_tilde) * (x + x_tilde))
 }
 
 const THRESHOLD: f64 = 0.46875;

@@ -5,14 +5,14 @@ use crate::constants::EPSILON;
 use crate::constants::FRAC_1_SQRT_2;
 use crate::constants::MAX;
 use crate::error_function::erfc_cody;
-use crate::polynomial::nested;
+use crate::polynomial::rational;
 use arithmetic::basic::abs;
 use arithmetic::exp::exp;
 use arithmetic::fused_multiply_add::mul_add2_sel;
 use arithmetic::ln::ln;
 use arithmetic::sqrt::sqrt;
 
-const FRAC_SQRT_2_PI: f64 = 0.398_942_280_401_432_65;
+pub const FRAC_SQRT_2_PI: f64 = 0.398_942_280_401_432_65;
 
 pub fn norm_pdf(x2: f64) -> f64
     ensures { λ r. ⌜ r ≡ normPdf x2 ⌝ }
@@ -116,7 +116,7 @@ pub fn inverse_norm_cdfm_half_for_midrange_probabilities(u: f64) -> f64
     ensures { λ r. ⌜ r ≡ inverseNormCdfmHalfForMidrangeProbabilities u ⌝ }
 {
     let s = mul_add2_sel(u, -u, U_MAX2);
-    u * (nested(s, &NUMERATOR) / nested(s, &DENOMINATOR))
+    u * rational(s, &NUMERATOR, &DENOMINATOR)
 }
 
 // Numerators and denominators for r below 2.05, 3.41, 6.7, 12.9, and from there on.
@@ -215,15 +215,15 @@ pub fn inverse_norm_cdf_for_low_probabilities(p: f64) -> f64
 {
     let r = sqrt(-ln(p));
     if r < 2.05 {
-        nested(r, &NUMERATOR_I) / nested(r, &DENOMINATOR_I)
+        rational(r, &NUMERATOR_I, &DENOMINATOR_I)
     } else if r < 3.41 {
-        nested(r, &NUMERATOR_II) / nested(r, &DENOMINATOR_II)
+        rational(r, &NUMERATOR_II, &DENOMINATOR_II)
     } else if r < 6.7 {
-        nested(r, &NUMERATOR_III) / nested(r, &DENOMINATOR_III)
+        rational(r, &NUMERATOR_III, &DENOMINATOR_III)
     } else if r < 12.9 {
-        nested(r, &NUMERATOR_IV) / nested(r, &DENOMINATOR_IV)
+        rational(r, &NUMERATOR_IV, &DENOMINATOR_IV)
     } else {
-        nested(r, &NUMERATOR_V) / nested(r, &DENOMINATOR_V)
+        rational(r, &NUMERATOR_V, &DENOMINATOR_V)
     }
 }
 

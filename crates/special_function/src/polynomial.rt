@@ -1,5 +1,6 @@
 // A polynomial by Horner's rule, for every length of its coefficients.
 ghost use mathlib.Core.Path.{_≡_};
+ghost use Rattle.arithmetic.specs.Operations.{_⊘_};
 ghost use Rattle.special_function.specs.Polynomial.{evaluate, nested};
 use arithmetic::fused_multiply_add::mul_add2_sel;
 
@@ -25,4 +26,10 @@ pub fn nested(z: f64, coefficients: &[f64]) -> f64
         return 0.0;
     }
     evaluate(coefficients[0], &coefficients[1..], z)
+}
+
+pub fn rational(z: f64, numerator: &[f64], denominator: &[f64]) -> f64
+    ensures { λ r. ⌜ r ≡ nested z (now (numerator .entry)) ⊘ nested z (now (denominator .entry)) ⌝ }
+{
+    nested(z, numerator) / nested(z, denominator)
 }

@@ -20,21 +20,9 @@ loop-holds : tie.Need-loop-holds Inv-loop μ-loop
 unfolding position thresholds
 loop-holds c = (search needs, zero-add _)
 
-mul-if1 : tie.Need-mul-if1 Inv-loop μ-loop
-mul-if1 c = search needs
-
-array-read-if1 : tie.Need-array-read-if1 Inv-loop μ-loop
-array-read-if1 c = search needs
-
 returns : tie.Need-returns Inv-loop μ-loop
 unfolding thresholds
 returns c = found _ thresholds _ _ (c .before .before .loop .inv .1) (c .before .loop-test .taken) (c .if1 .taken)
-
-add-i : tie.Need-add-i Inv-loop μ-loop
-add-i c = search needs
-
-loop-less : tie.Need-loop-less Inv-loop μ-loop
-loop-less c = search needs
 
 loop-again : tie.Need-loop-again Inv-loop μ-loop
 unfolding thresholds
@@ -47,14 +35,5 @@ returns-2 c = none _ thresholds _ _ (c .before .loop .inv .1) (omega arith)
 pub position-spec : {M : Type 1} → statement M
 position-spec =
     tie.close
-    (tie.spec
-    Inv-loop
-    μ-loop
-    loop-holds
-    mul-if1
-    array-read-if1
-    returns
-    add-i
-    loop-less
-    loop-again
-    returns-2)
+    (tie.spec Inv-loop μ-loop loop-holds (λ c. search needs) (λ c. search needs) returns (λ c. search needs)
+    (λ c. search needs) loop-again returns-2)

@@ -16,4 +16,5 @@ unfolding erfinv
 returns-3 c = rw (← c .before .before .before .before .abs .ensures, c .before .before .before .if1 .left, c .before .before .if2 .left) cc
 
 pub erfinv-spec : {M : Type 1} → statement M
-erfinv-spec = tie.close (tie.spec (λ c κs. tt) (λ c κs. tt) returns (λ c κs. tt) (λ c κs. tt) (λ c κs. tt) (λ c κs. tt) returns-2 returns-3)
+erfinv-spec = tie.close (tie.spec (λ c κs. tt) (λ c κs. tt) returns (λ c κs. tt) (λ c κs. tt) (λ c κs. tt) (λ c κs. tt) returns-2
+    returns-3)

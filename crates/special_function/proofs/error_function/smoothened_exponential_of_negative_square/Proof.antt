@@ -8,4 +8,4 @@ unfolding smoothenedExponentialOfNegativeSquare
 returns c = cc
 
 pub smoothened-exponential-of-negative-square-spec : {M : Type 1} → statement M
-smoothened-exponential-of-negative-square-spec = tie.close (tie.spec (λ c κs. tt) (λ c κs. tt) (λ c κs. tt) returns)
+smoothened-exponential-of-negative-square-spec = tie.close (tie.spec (λ c κs. tt) (λ c κs. tt) returns)

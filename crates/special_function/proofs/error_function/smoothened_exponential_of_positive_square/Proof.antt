@@ -8,4 +8,4 @@ unfolding smoothenedExponentialOfPositiveSquare
 returns c = cc
 
 pub smoothened-exponential-of-positive-square-spec : {M : Type 1} → statement M
-smoothened-exponential-of-positive-square-spec = tie.close (tie.spec (λ c κs. tt) (λ c κs. tt) (λ c κs. tt) returns)
+smoothened-exponential-of-positive-square-spec = tie.close (tie.spec (λ c κs. tt) (λ c κs. tt) returns)

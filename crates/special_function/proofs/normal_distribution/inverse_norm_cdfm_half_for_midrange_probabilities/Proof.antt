@@ -17,4 +17,4 @@ returns c = cc square
 
 pub inverse-norm-cdfm-half-for-midrange-probabilities-spec : {M : Type 1} → statement M
 inverse-norm-cdfm-half-for-midrange-probabilities-spec =
-    tie.close (tie.spec (λ c κs. tt) (λ c. search needs) (λ c κs. tt) (λ c. search needs) (λ c κs. tt) returns)
+    tie.close (tie.spec (λ c κs. tt) (λ c. search needs) (λ c. search needs) (λ c κs. tt) returns)

@@ -36,4 +36,5 @@ returns-2 : tie.Need-returns-2
 returns-2 c = c .evaluate .ensures ∙ some _ (c .before .before .before .before .before .args .coefficients .now) (omega arith)
 
 pub nested-spec : {M : Type 1} → statement M
-nested-spec = tie.close (tie.spec returns (λ c. search needs) (λ c. search needs) (λ c. search needs) (λ c. search needs) (λ c κs. tt) returns-2)
+nested-spec = tie.close (tie.spec returns (λ c. search needs) (λ c. search needs) (λ c. search needs) (λ c. search needs) (λ c κs. tt)
+    returns-2)

@@ -55,8 +55,8 @@ fn layer2(function: u32, a: f64) -> f64 {
 #[cfg(layer4)]
 mod layer4 {
     use crate::Reply;
-    use ours::explicit_black::counted::{Evaluation, Quantile};
-    use ours::explicit_black::{curves, quantile, survival};
+    use ours::inverse_gaussian::counted::{Evaluation, Quantile};
+    use ours::inverse_gaussian::{curves, quantile, survival};
 
     const ALLOWED: u64 = 2263;
 

@@ -5,8 +5,8 @@ use native.Mathlib.Omega.{arith}
 use lib.Ieee.{Float, ofBits}
 use Rattle.arithmetic.specs.Operations.{one}
 use Rattle.arithmetic.specs.Sqrt.{sqrt}
-use Rattle.explicit_black.specs.Counted.{Option, Counted, Metered, have, mapped, pay, afford}
-use Rattle.explicit_black.specs.LawsCounted.{afford-enough}
+use Rattle.inverse_gaussian.specs.Counted.{Option, Counted, Metered, have, mapped, pay, afford}
+use Rattle.inverse_gaussian.specs.LawsCounted.{afford-enough}
 use Rattle.explicit_black.specs.Quote.{Outcome, total, refused, answer, refusal, volatility, reply, searched, totalAt}
 use Rattle.explicit_black.specs.Replies.{Within}
 

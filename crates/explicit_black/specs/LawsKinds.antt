@@ -1,25 +1,24 @@
 -- Every outcome behind tests 1 to 4 is a value or a refusal given at once, or that of a search, which found a root or none. Assumes nothing.
-use mathlib.Core.Path.{_≡_, refl, sym, subst}
-use Prim.Native.Nat.{ℕ, _*_, _≤_}
-use native.Mathlib.Nat.{zero-mul, mul-one}
+use mathlib.Core.Path.{_≡_, refl}
+use Prim.Native.Nat.{ℕ, _≤_}
 use native.Mathlib.Omega.{arith}
-use mathlib.Core.Bool.{Bool, true, false, cond, false≢true}
-use lib.Dec.{T, lit≤, ltb→lt, lt→ltb}
-use lib.Ieee.{Float, nan, inf, fin, binary64, up, down, neg, lt, le, eq, isNan, fits, ofBits}
+use mathlib.Core.Bool.{Bool, true, false, cond}
+use lib.Dec.{T, lit≤}
+use lib.Ieee.{Float, binary64, neg, lt, le, eq, isNan, fits, ofBits}
 use lib.Ieee.Fits.{mul-fits, div-fits}
-use lib.Ieee.Positive.{positive, first-pos}
+use lib.Ieee.Positive.{positive}
 use Rattle.arithmetic.specs.Operations.{_⊖_, _⊗_, _⊘_, bits, nought, half, one, two, minPositive, infinity}
 use Rattle.arithmetic.specs.Basic.{abs}
 use Rattle.arithmetic.specs.Sqrt.{sqrt}
 use Rattle.arithmetic.specs.Exp.{exp}
 use Rattle.arithmetic.specs.Laws.Quotients.{at-least-no-nan}
-use Rattle.explicit_black.specs.Counted.{Option, some, none, Counted, atOnce}
-use Rattle.explicit_black.specs.Curves.{proper}
-use Rattle.explicit_black.specs.Quantile.{inverseGaussianQuantile}
-use Rattle.explicit_black.specs.Survival.{inverseGaussianQuantileFromSurvival}
-use Rattle.explicit_black.specs.LawsCounts.{quantile-count, from-survival-count}
-use Rattle.explicit_black.specs.LawsRoots.{quantile-fits, from-survival-fits}
-use Rattle.explicit_black.specs.Quote.{Outcome, total, refused, refusal, volatility, impliedNormalisedVolatilityAtm, atTheMoney, totalAt, searched, fromCallPrice, normalisedOutcome, normalisedTimeValue, valued, priced}
+use Rattle.inverse_gaussian.specs.Counted.{Option, some, none, Counted, atOnce}
+use Rattle.inverse_gaussian.specs.Curves.{proper}
+use Rattle.inverse_gaussian.specs.Quantile.{inverseGaussianQuantile}
+use Rattle.inverse_gaussian.specs.Survival.{inverseGaussianQuantileFromSurvival}
+use Rattle.inverse_gaussian.specs.LawsCounts.{quantile-count, from-survival-count}
+use Rattle.inverse_gaussian.specs.LawsRoots.{proper-positive, quantile-fits, from-survival-fits}
+use Rattle.explicit_black.specs.Quote.{Outcome, total, refused, impliedNormalisedVolatilityAtm, atTheMoney, totalAt, searched, fromCallPrice, normalisedOutcome, normalisedTimeValue, valued, priced}
 
 pub data Kind (c : Counted Outcome) : Type 0 where
   -- a value that is given at once: 0, infinity, or the one at the money
@@ -53,15 +52,6 @@ money-kind p = let v = impliedNormalisedVolatilityAtm p in go v (le nought v) (m
     go : (v : Float) (b : Bool) → T (fits binary64 v) → (b ≡ true → isNan v ≡ false) → Kind (atOnce (cond b (total v) (refused 9)))
     go v true F h = value v refl (h refl) F
     go v false F h = number 9 refl (lit≤ tt) (lit≤ tt)
-
-proper-positive : (x : Float) → proper x ≡ true → T (positive x)
-unfolding lt ofBits
-proper-positive nan h = absurd (false≢true h)
-proper-positive (inf s) h = absurd (false≢true h)
-proper-positive (fin true m e) h = absurd (false≢true h)
-proper-positive (fin false m e) h =
-    let q = rw (zero-mul, mul-one) at (ltb→lt (0 * down e) (m * up e * 1) (subst T (sym h) tt)) in
-    lt→ltb 0 m (first-pos m (up e) q)
 
 searched-kind : (c : Counted (Option Float)) → ((x : Float) → c .result ≡ some x → T (fits binary64 x)) → c .count ≤ 2263 → Kind (searched c)
 unfolding totalAt

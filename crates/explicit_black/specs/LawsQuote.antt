@@ -4,6 +4,7 @@ use mathlib.Core.Logic.{_⊎_, inl, inr}
 use Prim.Native.Nat.{ℕ, zero, suc, _+_, _*_, _≤_, _<_}
 use native.Mathlib.Nat.{zero-mul, mul-one, mul-pos, zero-lt-suc, lt-of-lt-of-le, le-add-right}
 use native.Mathlib.Omega.{arith}
+use borrow.Author.Tests.{ne-eqb}
 use mathlib.Core.Bool.{Bool, true, false, not, cond, _&&_, _||_, true≢false, false≢true}
 use lib.Dec.{T, eqb, eqb·suc-zero, ltb, lt→ltb, lit≤}
 use lib.Ieee.{Float, nan, inf, fin, binary64, up, down, neg, lt, le, eq, isNan, fits, ofBits}
@@ -19,7 +20,7 @@ use Rattle.arithmetic.specs.Laws.Halves.{Ordinary}
 use Rattle.arithmetic.specs.Laws.SqrtBounds.{sqrt-positive}
 use Rattle.arithmetic.specs.Laws.Quotients.{div-no-nan, two-over-root}
 use Rattle.bs_option_price.specs.BsOptionPrice.{negativeAbsLogMoneyness}
-use Rattle.explicit_black.specs.Counted.{Counted, atOnce}
+use Rattle.inverse_gaussian.specs.Counted.{Counted, atOnce}
 use Rattle.explicit_black.specs.Quote.{Outcome, total, refused, Reply, answer, refusal, reply, replyOf, volatility, normalisedOutcome, impliedBlackVolatilityNormalised, firstRefusal, intrinsicValue, priceBound, normalisedTimeValue, valued, priced, inputOutcome, impliedBlackVolatilityInput}
 use Rattle.explicit_black.specs.Demand.{compared}
 use Rattle.explicit_black.specs.LawsKinds.{Kind, value, number, root, no-root, normalised-kind, priced-kind}
@@ -217,7 +218,16 @@ pub record Domain (side : ℕ) (price forward strike time : Float) : Type 0 wher
   pub time-finite : isFinite time ≡ true
   pub time-not-below : lt time nought ≡ false
 
-a-side : (side : ℕ) → side ≤ 1 → (eqb side 0 || eqb side 1) ≡ true
+pub no-side : (side : ℕ) → 1 < side → (eqb side 0 || eqb side 1) ≡ false
+no-side side h = rw (ne-eqb side 0 (λ e. go side h e), ne-eqb side 1 (λ e. go' side h e))
+  where
+    go : (side : ℕ) → 1 < side → side ≡ 0 → ⊥
+    go side h e = omega arith
+
+    go' : (side : ℕ) → 1 < side → side ≡ 1 → ⊥
+    go' side h e = omega arith
+
+pub a-side : (side : ℕ) → side ≤ 1 → (eqb side 0 || eqb side 1) ≡ true
 a-side zero h = refl
 a-side (suc zero) h = refl
 a-side (suc (suc n)) h = absurd (omega arith)

@@ -1,18 +1,7 @@
--- Definitions: counted results and driven loops, then the source's file in its order, then the entries and what demand 3 says; and laws about them.
-pub mod Counted
-pub mod Drive
-pub mod Curves
-pub mod Bracket
-pub mod Newton
-pub mod Quantile
-pub mod Survival
-pub mod Meanings
+-- Definitions: the entries, and what demand 3 says of them; and laws about them.
 pub mod Quote
 pub mod Replies
 pub mod Demand
-pub mod LawsCounted
-pub mod LawsCounts
-pub mod LawsRoots
 pub mod LawsKinds
 pub mod LawsQuote
 pub mod LawsSteps

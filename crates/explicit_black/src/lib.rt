@@ -1,8 +1,2 @@
-// Quantiles of the inverse Gaussian distribution by searches whose evaluations are counted.
-pub mod bracket;
-pub mod counted;
-pub mod curves;
-pub mod newton;
-pub mod quantile;
+// The Black volatility of a quote, and of a normalised price.
 pub mod quote;
-pub mod survival;

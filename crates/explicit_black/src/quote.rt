@@ -1,14 +1,14 @@
 // The entries: the total volatility and the volatility of a price, or the number of a refusal.
-use crate::counted::Quantile;
-use crate::curves::is_proper;
-use crate::quantile::inverse_gaussian_quantile;
-use crate::survival::inverse_gaussian_quantile_from_survival;
 use arithmetic::basic::abs;
 use arithmetic::basic::is_finite;
 use arithmetic::basic::max;
 use arithmetic::exp::exp;
 use arithmetic::sqrt::sqrt;
 use bs_option_price::negative_abs_log_moneyness;
+use inverse_gaussian::counted::Quantile;
+use inverse_gaussian::curves::is_proper;
+use inverse_gaussian::quantile::inverse_gaussian_quantile;
+use inverse_gaussian::survival::inverse_gaussian_quantile_from_survival;
 use special_function::constants::MIN_POSITIVE;
 use special_function::error_function::erfinv;
 ghost use mathlib.Core.Path.{_≡_};
@@ -18,12 +18,15 @@ ghost use Rattle.arithmetic.specs.Basic.{isFinite};
 ghost use Rattle.arithmetic.specs.Operations.{_⊗_, nought};
 ghost use Rattle.arithmetic.specs.Sqrt.{sqrt};
 ghost use Rattle.bs_option_price.specs.BsOptionPrice.{negativeAbsLogMoneyness};
-ghost use Rattle.explicit_black.specs.Counted.{atOnce, mapped, afford};
-ghost use Rattle.explicit_black.specs.Meanings.{quantile};
+ghost use Rattle.inverse_gaussian.specs.Counted.{atOnce, mapped, afford};
+ghost use Rattle.inverse_gaussian.specs.Meanings.{quantile};
 ghost use Rattle.explicit_black.specs.Quote.{impliedNormalisedVolatilityAtm, atTheMoney, totalAt, fromCallPrice, normalisedOutcome, impliedBlackVolatilityNormalised, firstRefusal, intrinsicValue, priceBound, normalisedTimeValue, valued, priced, inputOutcome, impliedBlackVolatilityInput, volatility};
 ghost use Rattle.explicit_black.specs.Replies.{replied, solved, Within, RepliesTo};
 
 const SQRT_2: f64 = 1.4142135623730951;
+
+// The bits of infinity.
+const INFINITY: u64 = 0x7ff0_0000_0000_0000;
 
 // No quote makes more evaluations.
 const MAX_EVALUATIONS: u64 = 2263;
@@ -105,21 +108,19 @@ fn at_the_money(price: f64, allowed: u64) -> Solved
     Solved::Refused(9, allowed)
 }
 
-impl Quantile {
-    // Refused where there is no root that is finite and above 0.
-    fn total(self) -> Solved
-        ensures { λ r. ⌜ solved r ≡ mapped totalAt (quantile self) ⌝ }
-    {
-        match self {
-            Quantile::Root(x, left) => {
-                if is_proper(x) {
-                    return Solved::Total(2.0 / sqrt(x), left);
-                }
-                Solved::Refused(9, left)
+// Refused where there is no root that is finite and above 0.
+fn total(root: Quantile) -> Solved
+    ensures { λ r. ⌜ solved r ≡ mapped totalAt (quantile root) ⌝ }
+{
+    match root {
+        Quantile::Root(x, left) => {
+            if is_proper(x) {
+                return Solved::Total(2.0 / sqrt(x), left);
             }
-            Quantile::None(left) => Solved::Refused(9, left),
-            Quantile::Spent => Solved::Spent,
+            Solved::Refused(9, left)
         }
+        Quantile::None(left) => Solved::Refused(9, left),
+        Quantile::Spent => Solved::Spent,
     }
 }
 
@@ -128,16 +129,16 @@ fn from_call_price(otm_call_price: f64, mu: f64, allowed: u64) -> Solved
     ensures { λ r. ⌜ solved r ≡ afford allowed (fromCallPrice «otm_call_price» mu) ⌝ }
 {
     if otm_call_price < 1.0e-5 {
-        return inverse_gaussian_quantile_from_survival(otm_call_price, mu, allowed).total();
+        return total(inverse_gaussian_quantile_from_survival(otm_call_price, mu, allowed));
     }
     let probability = 1.0 - otm_call_price;
     if probability <= 0.0 {
-        return Solved::Total(f64::from_bits(0x7ff0_0000_0000_0000), allowed);
+        return Solved::Total(f64::from_bits(INFINITY), allowed);
     }
     if probability >= 1.0 {
         return Solved::Total(0.0, allowed);
     }
-    inverse_gaussian_quantile(probability, mu, allowed).total()
+    total(inverse_gaussian_quantile(probability, mu, allowed))
 }
 
 // The normalised entry after its test for figures that are not finite, with an allowance.
@@ -154,7 +155,7 @@ pub fn normalised_outcome(log_moneyness: f64, price: f64, allowed: u64) -> Solve
     let b_max = exp(-0.5 * abs_x);
     if price >= b_max {
         if price == b_max {
-            return Solved::Total(f64::from_bits(0x7ff0_0000_0000_0000), allowed);
+            return Solved::Total(f64::from_bits(INFINITY), allowed);
         }
         return Solved::Refused(8, allowed);
     }
@@ -282,7 +283,7 @@ pub fn priced(
     }
     if price >= bound {
         if price == bound {
-            return Solved::Total(f64::from_bits(0x7ff0_0000_0000_0000), allowed);
+            return Solved::Total(f64::from_bits(INFINITY), allowed);
         }
         return Solved::Refused(6, allowed);
     }

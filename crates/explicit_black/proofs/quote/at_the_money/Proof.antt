@@ -1,12 +1,8 @@
 -- `at_the_money` meets its contract: each return by the tests that led there. Assumes nothing.
 use Rattle.explicit_black.specs.Quote.{atTheMoney}
-use Rattle.explicit_black.specs.Counted.{afford}
-use borrow.Author.Needs.{needs}
+use Rattle.inverse_gaussian.specs.Counted.{afford}
 use Rattle.explicit_black.proofs.quote.at_the_money.Statement.{statement}
 use Rattle.explicit_black.proofs.quote.at_the_money.Tie as tie
-
-implied-normalised-volatility-atm-requires : tie.Need-implied-normalised-volatility-atm-requires
-implied-normalised-volatility-atm-requires c κs = search needs
 
 returns : tie.Need-returns
 unfolding afford atTheMoney
@@ -17,5 +13,4 @@ unfolding afford atTheMoney
 returns-2 c = rw (← c .before .implied-normalised-volatility-atm .ensures, c .if1 .left)
 
 pub at-the-money-spec : {M : Type 1} → statement M
-at-the-money-spec =
-    tie.close (tie.spec implied-normalised-volatility-atm-requires returns returns-2)
+at-the-money-spec = tie.close (tie.spec (λ c κs. tt) returns returns-2)

@@ -1,19 +1,10 @@
 -- `from_call_price` meets its contract: each return by the tests that led there. Assumes nothing.
 use Rattle.explicit_black.proofs.Paying.{afford-searched}
-use Rattle.explicit_black.specs.Quote.{totalAt, fromCallPrice}
-use Rattle.explicit_black.specs.Counted.{afford, mapped}
+use Rattle.explicit_black.specs.Quote.{fromCallPrice}
+use Rattle.inverse_gaussian.specs.Counted.{afford}
 use lib.Ieee.{nanBits}
-use mathlib.Core.Path.{sym, _∙_}
-use borrow.Author.Needs.{needs}
 use Rattle.explicit_black.proofs.quote.from_call_price.Statement.{statement}
 use Rattle.explicit_black.proofs.quote.from_call_price.Tie as tie
-
-inverse-gaussian-quantile-from-survival-requires :
-    tie.Need-inverse-gaussian-quantile-from-survival-requires
-inverse-gaussian-quantile-from-survival-requires c κs = search needs
-
-total-requires : tie.Need-total-requires
-total-requires c κs = search needs
 
 returns : tie.Need-returns
 unfolding fromCallPrice
@@ -31,12 +22,6 @@ returns-3 : tie.Need-returns-3
 unfolding afford fromCallPrice
 returns-3 c = rw (c .before .before .if1 .left, c .before .if2 .left, c .if3 .taken)
 
-inverse-gaussian-quantile-requires : tie.Need-inverse-gaussian-quantile-requires
-inverse-gaussian-quantile-requires c κs = search needs
-
-total-requires-2 : tie.Need-total-requires-2
-total-requires-2 c κs = search needs
-
 returns-4 : tie.Need-returns-4
 unfolding fromCallPrice
 returns-4 c = rw (c .before .before .before .before .if1 .left, c .before .before .before .if2 .left, c .before .before .if3 .left, afford-searched, ← c .before .inverse-gaussian-quantile .ensures) (c .total2 .ensures)
@@ -44,13 +29,5 @@ returns-4 c = rw (c .before .before .before .before .if1 .left, c .before .befor
 pub from-call-price-spec : {M : Type 1} → statement M
 from-call-price-spec =
     tie.close
-    (tie.spec
-    inverse-gaussian-quantile-from-survival-requires
-    total-requires
-    returns
-    float-from-bits-t7
-    returns-2
-    returns-3
-    inverse-gaussian-quantile-requires
-    total-requires-2
+    (tie.spec (λ c κs. tt) (λ c κs. tt) returns float-from-bits-t7 returns-2 returns-3 (λ c κs. tt) (λ c κs. tt)
     returns-4)

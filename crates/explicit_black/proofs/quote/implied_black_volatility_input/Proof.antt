@@ -1,16 +1,9 @@
 -- `implied_black_volatility_input` meets its contract: the reply of a quote that is allowed as many evaluations as any can make. Assumes nothing.
 use Rattle.explicit_black.specs.LawsQuote.{input-count}
 use Rattle.explicit_black.proofs.Paying.{enough-within}
-use Rattle.explicit_black.specs.Quote.{impliedBlackVolatilityInput, inputOutcome}
-use borrow.Author.Needs.{needs}
+use Rattle.explicit_black.specs.Quote.{impliedBlackVolatilityInput}
 use Rattle.explicit_black.proofs.quote.implied_black_volatility_input.Statement.{statement}
 use Rattle.explicit_black.proofs.quote.implied_black_volatility_input.Tie as tie
-
-input-outcome-requires : tie.Need-input-outcome-requires
-input-outcome-requires c κs = search needs
-
-sqrt-requires : tie.Need-sqrt-requires
-sqrt-requires c κs = search needs
 
 reply-requires : tie.Need-reply-requires
 reply-requires c κs = (c .sqrt .ensures, enough-within 2263 _ _ (c .before .input-outcome .ensures) (input-count _ _ _ _ _))
@@ -20,5 +13,4 @@ unfolding impliedBlackVolatilityInput
 returns c = c .reply .ensures _ (c .before .before .input-outcome .ensures)
 
 pub implied-black-volatility-input-spec : {M : Type 1} → statement M
-implied-black-volatility-input-spec =
-    tie.close (tie.spec input-outcome-requires sqrt-requires reply-requires returns)
+implied-black-volatility-input-spec = tie.close (tie.spec (λ c κs. tt) (λ c κs. tt) reply-requires returns)

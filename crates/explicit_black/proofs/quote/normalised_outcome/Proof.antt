@@ -1,8 +1,7 @@
 -- `normalised_outcome` meets its contract: each return by the tests that led there. Assumes nothing.
 use Rattle.explicit_black.specs.Quote.{normalisedOutcome}
-use Rattle.explicit_black.specs.Counted.{afford}
+use Rattle.inverse_gaussian.specs.Counted.{afford}
 use lib.Ieee.{nanBits}
-use borrow.Author.Needs.{needs}
 use Rattle.explicit_black.proofs.quote.normalised_outcome.Statement.{statement}
 use Rattle.explicit_black.proofs.quote.normalised_outcome.Tie as tie
 
@@ -13,12 +12,6 @@ returns c = rw (c .before .if1 .taken, c .if2 .taken)
 returns-2 : tie.Need-returns-2
 unfolding afford normalisedOutcome
 returns-2 c = rw (c .before .if1 .taken, c .if2 .left)
-
-abs-requires : tie.Need-abs-requires
-abs-requires c κs = search needs
-
-exp-requires : tie.Need-exp-requires
-exp-requires c κs = search needs
 
 float-from-bits-t11 : tie.Need-float-from-bits-t11
 unfolding nanBits
@@ -32,15 +25,9 @@ returns-4 : tie.Need-returns-4
 unfolding afford normalisedOutcome
 returns-4 c = rw (c .before .before .before .before .if1 .left, ← c .before .before .before .abs .ensures, ← c .before .before .exp .ensures, c .before .if3 .taken, c .if4 .left)
 
-at-the-money-requires : tie.Need-at-the-money-requires
-at-the-money-requires c κs = search needs
-
 returns-5 : tie.Need-returns-5
 unfolding normalisedOutcome
 returns-5 c = rw (c .before .before .before .before .before .if1 .left, ← c .before .before .before .before .abs .ensures, ← c .before .before .before .exp .ensures, c .before .before .if3 .left, c .before .if5 .taken) (c .at-the-money .ensures)
-
-from-call-price-requires : tie.Need-from-call-price-requires
-from-call-price-requires c κs = search needs
 
 returns-6 : tie.Need-returns-6
 unfolding normalisedOutcome
@@ -49,15 +36,5 @@ returns-6 c = rw (c .before .before .before .before .before .if1 .left, ← c .b
 pub normalised-outcome-spec : {M : Type 1} → statement M
 normalised-outcome-spec =
     tie.close
-    (tie.spec
-    returns
-    returns-2
-    abs-requires
-    exp-requires
-    float-from-bits-t11
-    returns-3
-    returns-4
-    at-the-money-requires
-    returns-5
-    from-call-price-requires
-    returns-6)
+    (tie.spec returns returns-2 (λ c κs. tt) (λ c κs. tt) float-from-bits-t11 returns-3 returns-4 (λ c κs. tt)
+    returns-5 (λ c κs. tt) returns-6)

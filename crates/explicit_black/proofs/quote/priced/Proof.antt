@@ -1,13 +1,9 @@
 -- `priced` meets its contract: each return by the tests that led there. Assumes nothing.
 use Rattle.explicit_black.specs.Quote.{priced}
-use Rattle.explicit_black.specs.Counted.{afford}
+use Rattle.inverse_gaussian.specs.Counted.{afford}
 use lib.Ieee.{nanBits}
-use borrow.Author.Needs.{needs}
 use Rattle.explicit_black.proofs.quote.priced.Statement.{statement}
 use Rattle.explicit_black.proofs.quote.priced.Tie as tie
-
-max-requires : tie.Need-max-requires
-max-requires c κs = search needs
 
 returns : tie.Need-returns
 unfolding afford priced
@@ -29,15 +25,6 @@ returns-4 : tie.Need-returns-4
 unfolding afford priced
 returns-4 c = rw (c .before .before .if1 .left, c .before .if3 .taken, c .if4 .left)
 
-sqrt-requires : tie.Need-sqrt-requires
-sqrt-requires c κs = search needs
-
-sqrt-requires-2 : tie.Need-sqrt-requires-2
-sqrt-requires-2 c κs = search needs
-
-below-bound-requires : tie.Need-below-bound-requires
-below-bound-requires c κs = search needs
-
 returns-5 : tie.Need-returns-5
 unfolding priced
 returns-5 c = rw (c .before .before .before .before .if1 .left, c .before .before .before .if3 .left, ← c .before .before .sqrt .ensures, ← c .before .sqrt2 .ensures) (c .below-bound .ensures)
@@ -45,14 +32,5 @@ returns-5 c = rw (c .before .before .before .before .if1 .left, c .before .befor
 pub priced-spec : {M : Type 1} → statement M
 priced-spec =
     tie.close
-    (tie.spec
-    max-requires
-    returns
-    returns-2
-    float-from-bits-t12
-    returns-3
-    returns-4
-    sqrt-requires
-    sqrt-requires-2
-    below-bound-requires
-    returns-5)
+    (tie.spec (λ c κs. tt) returns returns-2 float-from-bits-t12 returns-3 returns-4 (λ c κs. tt) (λ c κs. tt)
+    (λ c κs. tt) returns-5)

@@ -1,7 +1,6 @@
 -- `valued` meets its contract: each return by the tests that led there. Assumes nothing.
 use Rattle.explicit_black.specs.Quote.{valued}
-use Rattle.explicit_black.specs.Counted.{afford}
-use borrow.Author.Needs.{needs}
+use Rattle.inverse_gaussian.specs.Counted.{afford}
 use Rattle.explicit_black.proofs.quote.valued.Statement.{statement}
 use Rattle.explicit_black.proofs.quote.valued.Tie as tie
 
@@ -13,22 +12,9 @@ returns-2 : tie.Need-returns-2
 unfolding afford valued
 returns-2 c = rw (c .before .if1 .taken, c .if2 .left)
 
-negative-abs-log-moneyness-requires : tie.Need-negative-abs-log-moneyness-requires
-negative-abs-log-moneyness-requires c κs = search needs
-
-normalised-outcome-requires : tie.Need-normalised-outcome-requires
-normalised-outcome-requires c κs = search needs
-
 returns-3 : tie.Need-returns-3
 unfolding valued
 returns-3 c = rw (c .before .before .if1 .left, ← c .before .negative-abs-log-moneyness .ensures) (c .normalised-outcome .ensures)
 
 pub valued-spec : {M : Type 1} → statement M
-valued-spec =
-    tie.close
-    (tie.spec
-    returns
-    returns-2
-    negative-abs-log-moneyness-requires
-    normalised-outcome-requires
-    returns-3)
+valued-spec = tie.close (tie.spec returns returns-2 (λ c κs. tt) (λ c κs. tt) returns-3)

@@ -6,23 +6,11 @@ use borrow.Author.Needs.{needs}
 use Rattle.explicit_black.proofs.quote.Solved.reply.Statement.{statement}
 use Rattle.explicit_black.proofs.quote.Solved.reply.Tie as tie
 
-enum-known-self : tie.Need-enum-known-self
-enum-known-self c = search needs
-
-volatility-requires : tie.Need-volatility-requires
-volatility-requires c κs = search needs
-
 sub-t10 : tie.Need-sub-t10
 sub-t10 c = subst (λ s. Within 2263 (solved s)) (c .before .before .self .given .1) (c .before .before .before .before .pre .1)
 
-enum-known-self-2 : tie.Need-enum-known-self-2
-enum-known-self-2 c = search needs
-
 sub-t11 : tie.Need-sub-t11
 sub-t11 c = subst (λ s. Within 2263 (solved s)) (c .before .self2 .given .1) (c .before .before .before .pre .1)
-
-enum-told : tie.Need-enum-told
-enum-told c = search needs
 
 returns : tie.Need-returns
 returns c = λ d e. answers _ _ _ _ d (sym (ap solved (c .before .before .self .given .1)) ∙ e) (c .volatility .ensures)
@@ -36,13 +24,5 @@ returns-3 c = absurd (subst (λ s. Within 2263 (solved s)) (c .enum-told .given 
 pub reply-spec : {M : Type 1} → statement M
 reply-spec =
     tie.close
-    (tie.spec
-    enum-known-self
-    volatility-requires
-    sub-t10
-    enum-known-self-2
-    sub-t11
-    enum-told
-    returns
-    returns-2
-    returns-3)
+    (tie.spec (λ c. search needs) (λ c κs. search needs) sub-t10 (λ c. search needs) sub-t11 (λ c. search needs)
+    returns returns-2 returns-3)

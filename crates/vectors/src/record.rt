@@ -1,6 +1,5 @@
 // A record's words, as XDR (RFC 4506) writes them: the highest byte first.
 ghost use Prim.Native.Nat.{_<_, _≤_};
-ghost use mathlib.Core.Path.{_≡_};
 
 fn wide(byte: u8) -> u64
     ensures { λ r. ⌜ r < 256 ⌝ }

@@ -1,9 +1,9 @@
 -- Which floats are NaN. Assumes nothing.
-use mathlib.Core.Path.{_≡_, refl, sym, _∙_, subst}
-use mathlib.Core.Bool.{true, false, true≢false, false≢true}
+use mathlib.Core.Path.{_≡_, refl, sym, subst}
+use mathlib.Core.Bool.{true, false≢true}
 use lib.Dec.{T}
 use lib.Ieee.{Float, nan, inf, fin, binary64, ofBits, toBits, div, isNan, ne}
-use lib.Ieee.Compare.{differs-from-itself, nan-differs}
+use lib.Ieee.Compare.{differs-from-itself}
 
 -- the NaN that arithmetic makes
 pub nan-is : div binary64 (ofBits binary64 0) (ofBits binary64 0) ≡ nan
@@ -20,9 +20,3 @@ is-nan (fin s m e) h = absurd (false≢true h)
 pub nan-pattern : (x : Float) → ne x x ≡ true → 0x7ff8_0000_0000_0000 ≡ toBits binary64 x
 unfolding toBits
 nan-pattern x h = rw (differs-from-itself x (subst T (sym h) tt))
-
-pub no-nan : (x : Float) → ne x x ≡ false → isNan x ≡ false
-unfolding isNan
-no-nan nan h = absurd (true≢false (sym nan-differs ∙ h))
-no-nan (inf s) h = refl
-no-nan (fin s m e) h = refl

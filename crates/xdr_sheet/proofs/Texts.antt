@@ -3,7 +3,7 @@ use mathlib.Core.Path.{_≡_, refl, sym, ap, _∙_, subst}
 use mathlib.Core.List.{List, [], _∷_, _++_, map, append-assoc, append-nil}
 use Prim.Native.Nat.{ℕ, zero, suc, _+_, _-_, _*_, _/_, _^_, _≤_, _<_}
 use native.Mathlib.Numerals.{add-one}
-use native.Mathlib.Nat.{pow-suc, lt-of-lt-of-le, lt-of-not-le, not-le-of-lt, le-of-suc-le-suc, le-antisymm, le-trans, div-lt-iff-lt-mul, le-div-iff-mul-le, pow-le-pow-right}
+use native.Mathlib.Nat.{pow-suc, lt-of-lt-of-le, lt-of-not-le, not-le-of-lt, le-of-suc-le-suc, not-suc-le-zero, lt-irrefl, le-antisymm, le-trans, div-lt-iff-lt-mul, le-div-iff-mul-le, pow-le-pow-right}
 use native.Mathlib.Omega.{arith}
 use mathlib.Core.Bool.{Bool, true, false, not, cond}
 use borrow.Author.Tests.{lt-leb, le-leb}
@@ -111,50 +111,26 @@ with-room l n at before after e h p =
 less-one : (k : ℕ) → suc k - 1 ≡ k
 less-one k = omega arith
 
+more : (k : ℕ) → 1 < suc (suc k)
+more k = omega arith
+
 few : (n k : ℕ) → n < 10 → Fewest 10 1 n k → 1 ≡ k
-few n zero h f = absurd (no (f .0))
-  where
-    no : 1 ≤ 0 → ⊥
-    no g = omega arith
+few n zero h f = absurd (not-suc-le-zero (f .0))
 few n (suc zero) h f = refl
-few n (suc (suc k)) h f = absurd (no (pow-pos' k) (subst (λ (x : ℕ). 10 ^ x ≤ n) (less-one (suc k)) (f .2 (more k))))
-  where
-    more : (k : ℕ) → 1 < suc (suc k)
-    more k = omega arith
-
-    pow-pos' : (k : ℕ) → 10 ≤ 10 ^ suc k
-    pow-pos' zero = lit≤ tt
-    pow-pos' (suc k) = le-trans (pow-pos' k) (le-trans (grow (10 ^ suc k)) (le-of (sym (pow-suc 10 (suc k)))))
-      where
-        grow : (x : ℕ) → x ≤ x * 10
-        grow x = omega arith
-
-        le-of : {x y : ℕ} → x ≡ y → x ≤ y
-        le-of e = omega arith
-
-    no : 10 ≤ 10 ^ suc k → 10 ^ suc k ≤ n → ⊥
-    no a b = omega arith
+few n (suc (suc k)) h f =
+    absurd (not-le-of-lt h (le-trans (pow-le-pow-right {n = 10} (lit< tt) (le-of-suc-le-suc (more k))) (subst (λ (x : ℕ). 10 ^ x ≤ n) (less-one (suc k)) (f .2 (more k)))))
 
 -- one digit less of the number
 tenth : (n k : ℕ) → 10 ≤ n → Fewest 10 1 n (suc (suc k)) → Fewest 10 1 (n / 10) (suc k)
 tenth n k h f = (
-  least k,
+  le-of-suc-le-suc (more k),
   div-lt-iff-lt-mul (lit< tt) .1 (subst (λ (x : ℕ). n < x) (pow-suc 10 (suc k)) (f .1)),
   λ g. le-div-iff-mul-le (lit< tt) .1 (subst (λ (x : ℕ). x ≤ n) (same k g) (f .2 (more k))),
 )
   where
-    least : (k : ℕ) → 1 ≤ suc k
-    least k = omega arith
-
-    more : (k : ℕ) → 1 < suc (suc k)
-    more k = omega arith
-
     same : (k : ℕ) → 1 < suc k → 10 ^ (suc (suc k) - 1) ≡ 10 ^ (suc k - 1) * 10
     same (suc k) g = ap (λ (x : ℕ). 10 ^ x) (less-one (suc (suc k))) ∙ pow-suc 10 (suc k) ∙ ap (λ (x : ℕ). 10 ^ x * 10) (sym (less-one (suc k)))
-    same zero g = absurd (no g)
-      where
-        no : 1 < 1 → ⊥
-        no g = omega arith
+    same zero g = absurd (lt-irrefl 1 g)
 
 pub places-is : (f n k : ℕ) → n < 10 ^ suc f → Fewest 10 1 n k → places f n ≡ k
 unfolding places
@@ -163,14 +139,8 @@ places-is (suc f) n k h g = go (ltb n 10) (ltb→lt n 10) (nltb→le n 10)
     (λ j. places-is f (n / 10) j (div-lt-iff-lt-mul (lit< tt) .1 (subst (λ (x : ℕ). n < x) (pow-suc 10 (suc f)) h)))
   where
     many : (k : ℕ) → 10 ≤ n → Fewest 10 1 n k → ((j : ℕ) → Fewest 10 1 (n / 10) j → places f (n / 10) ≡ j) → suc (places f (n / 10)) ≡ k
-    many zero l g r = absurd (no (g .0))
-      where
-        no : 1 ≤ 0 → ⊥
-        no a = omega arith
-    many (suc zero) l g r = absurd (no l (g .1))
-      where
-        no : 10 ≤ n → n < 10 → ⊥
-        no a b = omega arith
+    many zero l g r = absurd (not-suc-le-zero (g .0))
+    many (suc zero) l g r = absurd (not-le-of-lt (g .1) l)
     many (suc (suc k)) l g r = ap suc (r (suc k) (tenth n k l g))
 
     go : (b : Bool) → (T b → n < 10) → (T (not b) → 10 ≤ n) → ((j : ℕ) → Fewest 10 1 (n / 10) j → places f (n / 10) ≡ j) → cond b 1 (suc (places f (n / 10))) ≡ k
@@ -195,13 +165,10 @@ unfolding decimal
 decimal-is n k h f = ap (λ (x : ℕ). digits 10 x n) (sym (places-is 19 n k (lt-of-lt-of-le h (lit≤ tt)) f))
 
 pub sixteen : (n k : ℕ) → n < 2 ^ 64 → Fewest 16 16 n k → k ≡ 16
-sixteen n k h f = le-antisymm (le-of-suc-le-suc (lt-of-not-le (λ (g : 17 ≤ k). not-le-of-lt h (le-trans (pow-le k g) (f .2 g))))) (f .0)
+sixteen n k h f = le-antisymm (le-of-suc-le-suc (lt-of-not-le (λ (g : 17 ≤ k). not-le-of-lt h (le-trans (pow-le-pow-right {n = 16} (lit< tt) (less k g)) (f .2 g))))) (f .0)
   where
-    pow-le : (k : ℕ) → 17 ≤ k → 2 ^ 64 ≤ 16 ^ (k - 1)
-    pow-le k g = le-trans (lit≤ {m = 2 ^ 64} {n = 16 ^ 16} tt) (pow-le-pow-right (lit< tt) (less k g))
-      where
-        less : (k : ℕ) → 17 ≤ k → 16 ≤ k - 1
-        less k g = omega arith
+    less : (k : ℕ) → 17 ≤ k → 16 ≤ k - 1
+    less k g = omega arith
 
 pub hexadecimal-is : (n k : ℕ) → n < 2 ^ 64 → Fewest 16 16 n k → digits 16 k n ≡ hexadecimal n
 unfolding hexadecimal

@@ -4,10 +4,9 @@ use Prim.Native.Nat.{ℕ, _+_, _≤_}
 use native.Mathlib.Omega.{arith}
 use mathlib.Core.Bool.{Bool, true, false, cond}
 use mathlib.Core.List.{List}
-use lib.Dec.{T, leb, leb→le}
+use lib.Dec.{T, leb→le}
 use lib.ListN.{length}
 use Rattle.xdr_sheet.specs.Lines.{hasRoom, placed}
-use Rattle.xdr_sheet.specs.declared.text.Placed.{Placed}
 use Rattle.xdr_sheet.specs.declared.text.Placed.the-variants.{At, Full}
 
 pub placed-within : (text : List ℕ) (at : ℕ) (buffer : List ℕ) (n : ℕ) → At n ≡ placed text at buffer → n ≤ length buffer

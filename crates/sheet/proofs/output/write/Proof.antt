@@ -10,11 +10,5 @@ slice-aggregate-write-all c =
     let a = c .before .before .args in
     sym (length-take-le (a .at) (a .out .now) (c .before .before .pre))
 
-write-all-requires : tie.Need-write-all-requires
-write-all-requires c κs = search needs
-
-returns : tie.Need-returns
-returns c = search needs
-
 pub write-spec : {M : Type 1} → statement M
-write-spec = tie.close (tie.spec slice-aggregate-write-all write-all-requires returns)
+write-spec = tie.close (tie.spec slice-aggregate-write-all (λ c κs. search needs) (λ c. search needs))

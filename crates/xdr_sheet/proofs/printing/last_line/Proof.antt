@@ -6,21 +6,6 @@ use borrow.Author.Needs.{needs}
 use Rattle.xdr_sheet.proofs.printing.last_line.Statement.{statement}
 use Rattle.xdr_sheet.proofs.printing.last_line.Tie as tie
 
-quotes-in-requires : tie.Need-quotes-in-requires
-quotes-in-requires c κs = search needs
-
-enum-told : tie.Need-enum-told
-enum-told c = search needs
-
-closing-line-requires : tie.Need-closing-line-requires
-closing-line-requires c κs = search needs
-
-enum-told-2 : tie.Need-enum-told-2
-enum-told-2 c = search needs
-
-refused-line-requires : tie.Need-refused-line-requires
-refused-line-requires c κs = search needs
-
 returns : tie.Need-returns
 returns c =
     let q = c .before .before .before in
@@ -36,11 +21,4 @@ returns-2 c =
 pub last-line-spec : {M : Type 1} → statement M
 last-line-spec =
     tie.close
-    (tie.spec
-    quotes-in-requires
-    enum-told
-    closing-line-requires
-    enum-told-2
-    refused-line-requires
-    returns
-    returns-2)
+    (tie.spec (λ c κs. search needs) (λ c. search needs) (λ c κs. search needs) (λ c. search needs) (λ c κs. search needs) returns returns-2)

@@ -3,18 +3,6 @@ use borrow.Author.Needs.{needs}
 use Rattle.xdr_sheet.proofs.printing.tally.Statement.{statement}
 use Rattle.xdr_sheet.proofs.printing.tally.Tie as tie
 
-enum-told : tie.Need-enum-told
-enum-told c = search needs
-
-add-t5 : tie.Need-add-t5
-add-t5 c = search needs
-
-enum-told-2 : tie.Need-enum-told-2
-enum-told-2 c = search needs
-
-add-t6 : tie.Need-add-t6
-add-t6 c = search needs
-
 returns : tie.Need-returns
 returns c = rw (c .enum-told .given .1)
 
@@ -22,4 +10,4 @@ returns-2 : tie.Need-returns-2
 returns-2 c = rw (c .enum-told2 .given .1)
 
 pub tally-spec : {M : Type 1} → statement M
-tally-spec = tie.close (tie.spec enum-told add-t5 enum-told-2 add-t6 returns returns-2)
+tally-spec = tie.close (tie.spec (λ c. search needs) (λ c. search needs) (λ c. search needs) (λ c. search needs) returns returns-2)

@@ -11,21 +11,6 @@ use Rattle.xdr_sheet.proofs.sheet.reply.Tie as tie
 counted : (a : tie.After-count) → quotes (a .count .given .0 .0) ≡ size (a .before .before .before .before .args .sheet .now)
 counted a = sym (ap sized (a .count .given .1)) ∙ a .before .before .quotes-in .ensures
 
-quotes-in-requires : tie.Need-quotes-in-requires
-quotes-in-requires c κs = search needs
-
-enum-known-count : tie.Need-enum-known-count
-enum-known-count c = search needs
-
-cast-if1 : tie.Need-cast-if1
-cast-if1 c = search needs
-
-mul-quote : tie.Need-mul-quote
-mul-quote c = search needs
-
-add-quote : tie.Need-add-quote
-add-quote c = search needs
-
 quote-requires : tie.Need-quote-requires
 quote-requires c κs =
     let a = c .before .before .before .before .before .before in
@@ -35,9 +20,6 @@ returns : tie.Need-returns
 returns c =
     let a = c .before .before .before .before .before .before .before in
     ap quoted (c .quote .ensures) ∙ quote-there (a .args .sheet .now) _ (a .args .index) (counted (c .before .before .before)) (c .before .if1 .taken)
-
-enum-told : tie.Need-enum-told
-enum-told c = search needs
 
 returns-2 : tie.Need-returns-2
 returns-2 c =
@@ -52,14 +34,5 @@ returns-3 c =
 pub reply-spec : {M : Type 1} → statement M
 reply-spec =
     tie.close
-    (tie.spec
-    quotes-in-requires
-    enum-known-count
-    cast-if1
-    mul-quote
-    add-quote
-    quote-requires
-    returns
-    enum-told
-    returns-2
-    returns-3)
+    (tie.spec (λ c κs. search needs) (λ c. search needs) (λ c. search needs) (λ c. search needs) (λ c. search needs)
+    quote-requires returns (λ c. search needs) returns-2 returns-3)

@@ -4,33 +4,6 @@ use borrow.Author.Needs.{needs}
 use Rattle.xdr_sheet.proofs.text.reply_line.Statement.{statement}
 use Rattle.xdr_sheet.proofs.text.reply_line.Tie as tie
 
-empty-requires : tie.Need-empty-requires
-empty-requires c κs = search needs
-
-decimal-requires : tie.Need-decimal-requires
-decimal-requires c κs = search needs
-
-enum-known-reply : tie.Need-enum-known-reply
-enum-known-reply c = search needs
-
-pattern-requires : tie.Need-pattern-requires
-pattern-requires c κs = search needs
-
-pattern-requires-2 : tie.Need-pattern-requires-2
-pattern-requires-2 c κs = search needs
-
-answer-requires : tie.Need-answer-requires
-answer-requires c κs = search needs
-
-enum-known-reply-2 : tie.Need-enum-known-reply-2
-enum-known-reply-2 c = search needs
-
-cast-refusal : tie.Need-cast-refusal
-cast-refusal c = search needs
-
-refusal-requires : tie.Need-refusal-requires
-refusal-requires c κs = search needs
-
 returns : tie.Need-returns
 returns c =
     let m = c .before .before .before in
@@ -46,15 +19,5 @@ returns-2 c =
 pub reply-line-spec : {M : Type 1} → statement M
 reply-line-spec =
     tie.close
-    (tie.spec
-    empty-requires
-    decimal-requires
-    enum-known-reply
-    pattern-requires
-    pattern-requires-2
-    answer-requires
-    enum-known-reply-2
-    cast-refusal
-    refusal-requires
-    returns
-    returns-2)
+    (tie.spec (λ c κs. search needs) (λ c κs. search needs) (λ c. search needs) (λ c κs. search needs) (λ c κs. search needs) (λ c κs. search needs) (λ c. search needs)
+    (λ c. search needs) (λ c κs. search needs) returns returns-2)

@@ -8,24 +8,6 @@ use borrow.Author.Needs.{needs}
 use Rattle.xdr_sheet.proofs.xdr.double.Statement.{statement}
 use Rattle.xdr_sheet.proofs.xdr.double.Tie as tie
 
-word-requires : tie.Need-word-requires
-word-requires c κs = search needs
-
-mul-value : tie.Need-mul-value
-mul-value c = search needs
-
-add-word : tie.Need-add-word
-add-word c = search needs
-
-word-requires-2 : tie.Need-word-requires-2
-word-requires-2 c κs = search needs
-
-add-value : tie.Need-add-value
-add-value c = search needs
-
-value-requires : tie.Need-value-requires
-value-requires c κs = search needs
-
 returns : tie.Need-returns
 unfolding double hyper
 returns c = c .value .ensures ∙ ap (ofBits binary64) (whole (c .before .before .word .ensures .0) (c .before .word2 .ensures .0))
@@ -36,4 +18,5 @@ returns c = c .value .ensures ∙ ap (ofBits binary64) (whole (c .before .before
 pub double-spec : {M : Type 1} → statement M
 double-spec =
     tie.close
-    (tie.spec word-requires mul-value add-word word-requires-2 add-value value-requires returns)
+    (tie.spec (λ c κs. search needs) (λ c. search needs) (λ c. search needs) (λ c κs. search needs) (λ c. search needs) (λ c κs. search needs)
+    returns)

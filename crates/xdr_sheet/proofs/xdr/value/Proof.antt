@@ -21,8 +21,5 @@ float-from-bits-result c =
     let b = c .before .args .bits in
     subst (λ (t : Bool). T (not t)) (sym (nanBits-above binary64 b ∙ le-ltb 9218868437227405312 (b % 9223372036854775808) (c .if1 .left))) tt
 
-returns-2 : tie.Need-returns-2
-returns-2 c = search needs
-
 pub value-spec : {M : Type 1} → statement M
-value-spec = tie.close (tie.spec returns float-from-bits-result returns-2)
+value-spec = tie.close (tie.spec returns float-from-bits-result (λ c. search needs))

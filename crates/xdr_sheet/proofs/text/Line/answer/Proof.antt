@@ -5,39 +5,6 @@ use borrow.Author.Needs.{needs}
 use Rattle.xdr_sheet.proofs.text.Line.answer.Statement.{statement}
 use Rattle.xdr_sheet.proofs.text.Line.answer.Tie as tie
 
-slice-aggregate-bytes : tie.Need-slice-aggregate-bytes
-slice-aggregate-bytes c = search needs
-
-bytes-requires : tie.Need-bytes-requires
-bytes-requires c κs = search needs
-
-hexadecimal-requires : tie.Need-hexadecimal-requires
-hexadecimal-requires c κs = search needs
-
-slice-aggregate-bytes-2 : tie.Need-slice-aggregate-bytes-2
-slice-aggregate-bytes-2 c = search needs
-
-bytes-requires-2 : tie.Need-bytes-requires-2
-bytes-requires-2 c κs = search needs
-
-hexadecimal-requires-2 : tie.Need-hexadecimal-requires-2
-hexadecimal-requires-2 c κs = search needs
-
-slice-aggregate-bytes-3 : tie.Need-slice-aggregate-bytes-3
-slice-aggregate-bytes-3 c = search needs
-
-bytes-requires-3 : tie.Need-bytes-requires-3
-bytes-requires-3 c κs = search needs
-
-decimal-requires : tie.Need-decimal-requires
-decimal-requires c κs = search needs
-
-slice-aggregate-bytes-4 : tie.Need-slice-aggregate-bytes-4
-slice-aggregate-bytes-4 c = search needs
-
-bytes-requires-4 : tie.Need-bytes-requires-4
-bytes-requires-4 c κs = search needs
-
 returns : tie.Need-returns
 unfolding answerFields
 returns c =
@@ -49,16 +16,5 @@ returns c =
 pub answer-spec : {M : Type 1} → statement M
 answer-spec =
     tie.close
-    (tie.spec
-    slice-aggregate-bytes
-    bytes-requires
-    hexadecimal-requires
-    slice-aggregate-bytes-2
-    bytes-requires-2
-    hexadecimal-requires-2
-    slice-aggregate-bytes-3
-    bytes-requires-3
-    decimal-requires
-    slice-aggregate-bytes-4
-    bytes-requires-4
-    returns)
+    (tie.spec (λ c. search needs) (λ c κs. search needs) (λ c κs. search needs) (λ c. search needs) (λ c κs. search needs) (λ c κs. search needs)
+    (λ c. search needs) (λ c κs. search needs) (λ c κs. search needs) (λ c. search needs) (λ c κs. search needs) returns)

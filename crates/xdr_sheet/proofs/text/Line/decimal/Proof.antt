@@ -12,15 +12,6 @@ use Rattle.xdr_sheet.proofs.text.Line.decimal.Tie as tie
 few : (c : tie.After-decimal) → c .decimal .result ≤ 20
 few c = places-le (c .before .before .args .n) (c .decimal .result) (search needs) (c .decimal .ensures .1 .0)
 
-decimal-requires : tie.Need-decimal-requires
-decimal-requires c κs = search needs
-
-array-share-prefix-digits : tie.Need-array-share-prefix-digits
-array-share-prefix-digits c = search needs
-
-slice-aggregate-bytes : tie.Need-slice-aggregate-bytes
-slice-aggregate-bytes c = search needs
-
 bytes-requires : tie.Need-bytes-requires
 bytes-requires c κs = omega (arith, few (c .before))
 
@@ -33,11 +24,4 @@ returns c =
     )
 
 pub decimal-spec : {M : Type 1} → statement M
-decimal-spec =
-    tie.close
-    (tie.spec
-    decimal-requires
-    array-share-prefix-digits
-    slice-aggregate-bytes
-    bytes-requires
-    returns)
+decimal-spec = tie.close (tie.spec (λ c κs. search needs) (λ c. search needs) (λ c. search needs) bytes-requires returns)

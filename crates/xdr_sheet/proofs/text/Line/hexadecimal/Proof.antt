@@ -12,15 +12,6 @@ use Rattle.xdr_sheet.proofs.text.Line.hexadecimal.Tie as tie
 all : (c : tie.After-hex) → c .hex .result ≡ 16
 all c = sixteen (c .before .before .args .bits) (c .hex .result) (search needs) (c .hex .ensures .1 .0)
 
-hex-requires : tie.Need-hex-requires
-hex-requires c κs = search needs
-
-array-share-prefix-digits : tie.Need-array-share-prefix-digits
-array-share-prefix-digits c = search needs
-
-slice-aggregate-bytes : tie.Need-slice-aggregate-bytes
-slice-aggregate-bytes c = search needs
-
 bytes-requires : tie.Need-bytes-requires
 bytes-requires c κs = omega (arith, all (c .before))
 
@@ -33,6 +24,4 @@ returns c =
     )
 
 pub hexadecimal-spec : {M : Type 1} → statement M
-hexadecimal-spec =
-    tie.close
-    (tie.spec hex-requires array-share-prefix-digits slice-aggregate-bytes bytes-requires returns)
+hexadecimal-spec = tie.close (tie.spec (λ c κs. search needs) (λ c. search needs) (λ c. search needs) bytes-requires returns)

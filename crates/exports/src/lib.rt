@@ -1,4 +1,10 @@
-// The functions of the layers for C and Rust, on numbers alone.
+// The functions of the layers for C and Rust, on numbers and bytes.
+use explicit_black::quote::Reply;
+use inverse_gaussian::counted::Evaluation;
+use xdr_sheet::printing::Progress;
+use xdr_sheet::sheet::Asked;
+use xdr_sheet::sheet::Size;
+use xdr_sheet::text::Placed;
 ghost use mathlib.Core.Path.{_≡_};
 ghost use Rattle.arithmetic.specs.Sqrt.{sqrt};
 ghost use Rattle.arithmetic.specs.MulAdd.{mulAdd};
@@ -9,6 +15,15 @@ ghost use Rattle.special_function.specs.ErrorFunction.{erfCody, erfcCody, erfcx
 ghost use Rattle.special_function.specs.Erfinv.{erfinv};
 ghost use Rattle.special_function.specs.NormalDistribution.{normPdf, normCdf, inverseNormCdf};
 ghost use Rattle.bs_option_price.specs.BsOptionPrice.{normalisedBlack, negativeAbsLogMoneyness};
+ghost use Rattle.inverse_gaussian.specs.Curves.{inverseGaussianCdf, inverseGaussianSurvival};
+ghost use Rattle.inverse_gaussian.specs.Meanings.{evaluated};
+ghost use Rattle.explicit_black.specs.Quote.{impliedBlackVolatilityNormalised, impliedBlackVolatilityInput};
+ghost use Rattle.explicit_black.specs.Replies.{replied};
+ghost use Rattle.xdr_sheet.specs.Sheet.{size, quotedAt};
+ghost use Rattle.xdr_sheet.specs.Lines.{placed, appended};
+ghost use Rattle.xdr_sheet.specs.Printing.{nextLine};
+ghost use Rattle.xdr_sheet.specs.declared.printing.Progress.the-variants.{Tally};
+ghost use Rattle.exports.specs.Handed.{valueOf, handed, handing, handingOf, counting, countingOf, bytesOf};
 
 #[no_mangle]
 pub extern "C" fn quoter_sqrt(x: f64) -> f64
@@ -113,4 +128,146 @@ pub extern "C" fn quoter_negative_abs_log_moneyness(f: f64, k: f64) -> f64
     ensures { λ r. ⌜ r ≡ negativeAbsLogMoneyness f k ⌝ }
 {
     bs_option_price::negative_abs_log_moneyness(f, k)
+}
+
+// The value of an evaluation that was allowed.
+fn value(evaluation: Evaluation) -> f64
+    ensures { λ r. ⌜ r ≡ valueOf (evaluated evaluation) ⌝ }
+{
+    match evaluation {
+        Evaluation::Value(value, _) => value,
+        // not reached
+        Evaluation::Spent => 0.0,
+    }
+}
+
+#[no_mangle]
+pub extern "C" fn quoter_inverse_gaussian_cdf(x: f64, mu: f64) -> f64
+    ensures { λ r. ⌜ r ≡ inverseGaussianCdf x mu ⌝ }
+{
+    value(inverse_gaussian::curves::inverse_gaussian_cdf(x, mu, 1))
+}
+
+#[no_mangle]
+pub extern "C" fn quoter_inverse_gaussian_survival(x: f64, mu: f64) -> f64
+    ensures { λ r. ⌜ r ≡ inverseGaussianSurvival x mu ⌝ }
+{
+    value(inverse_gaussian::curves::inverse_gaussian_survival(x, mu, 1))
+}
+
+// Writes a reply to the caller's places; a refusal writes no figure.
+fn hand(reply: Reply, total: &mut f64, volatility: &mut f64, count: &mut u64) -> u32
+    ensures { λ r. ⌜ handed r (now (total .exit)) (now (volatility .exit)) (now (count .exit)) ≡ handing (now (total .entry)) (now (volatility .entry)) (replied reply) ⌝ }
+{
+    match reply {
+        Reply::Answer {
+            total: v,
+            volatility: w,
+            count: n,
+        } => {
+            *total = v;
+            *volatility = w;
+            *count = n;
+            0
+        }
+        Reply::Refusal { number, count: n } => {
+            *count = n;
+            number
+        }
+    }
+}
+
+#[no_mangle]
+pub extern "C" fn quoter_quote(
+    side: u32,
+    price: f64,
+    forward: f64,
+    strike: f64,
+    time: f64,
+    total: &mut f64,
+    volatility: &mut f64,
+    count: &mut u64,
+) -> u32
+    ensures { λ r. ⌜ handed r (now (total .exit)) (now (volatility .exit)) (now (count .exit)) ≡ handing (now (total .entry)) (now (volatility .entry)) (impliedBlackVolatilityInput side price forward strike time) ⌝ }
+{
+    let reply = explicit_black::quote::implied_black_volatility_input(
+        side,
+        price,
+        forward,
+        strike,
+        time,
+    );
+    hand(reply, total, volatility, count)
+}
+
+#[no_mangle]
+pub extern "C" fn quoter_normalised(
+    log_moneyness: f64,
+    price: f64,
+    total: &mut f64,
+    volatility: &mut f64,
+    count: &mut u64,
+) -> u32
+    ensures { λ r. ⌜ handed r (now (total .exit)) (now (volatility .exit)) (now (count .exit)) ≡ handing (now (total .entry)) (now (volatility .entry)) (impliedBlackVolatilityNormalised «log_moneyness» price) ⌝ }
+{
+    let reply = explicit_black::quote::implied_black_volatility_normalised(log_moneyness, price);
+    hand(reply, total, volatility, count)
+}
+
+// How many quotes a sheet has: 0 with their number, or 10.
+#[no_mangle]
+pub extern "C" fn quoter_sheet_size(sheet: &[u8], quotes: &mut u32) -> u32
+    ensures { λ r. ⌜ counting r (now (quotes .exit)) ≡ countingOf (now (quotes .entry)) (size (now (sheet .entry))) ⌝ }
+{
+    match xdr_sheet::sheet::quotes_in(sheet) {
+        Size::Quotes(n) => {
+            *quotes = n;
+            0
+        }
+        Size::Refused => 10,
+    }
+}
+
+// The quote of a sheet with `index` quotes before it; 10 where there is none.
+#[no_mangle]
+pub extern "C" fn quoter_sheet_quote(
+    sheet: &[u8],
+    index: u64,
+    total: &mut f64,
+    volatility: &mut f64,
+    count: &mut u64,
+) -> u32
+    ensures { λ r. ⌜ handed r (now (total .exit)) (now (volatility .exit)) (now (count .exit)) ≡ handingOf (now (total .entry)) (now (volatility .entry)) (quotedAt (now (sheet .entry)) index) ⌝ }
+{
+    match xdr_sheet::sheet::reply(sheet, index) {
+        Asked::Replied(reply) => hand(reply, total, volatility, count),
+        Asked::Nothing => {
+            *count = 0;
+            10
+        }
+    }
+}
+
+// Writes the line that comes after so many answers and refusals to the start of `text`, and says how
+// many bytes it has: 0 where `text` has no room for it.
+#[no_mangle]
+pub extern "C" fn quoter_sheet_line(
+    sheet: &[u8],
+    answers: u32,
+    refusals: u32,
+    text: &mut [u8],
+) -> usize
+    ensures { λ r. ⌜ r ≡ bytesOf (placed (nextLine (now (sheet .entry)) (Tally answers refusals)) 0 (now (text .entry))) ⌝ }
+    ensures { λ _. ⌜ now (text .exit) ≡ appended (nextLine (now (sheet .entry)) (Tally answers refusals)) 0 (now (text .entry)) ⌝ }
+{
+    let progress = Progress::Tally {
+        answers: answers,
+        refusals: refusals,
+    };
+    let printed = xdr_sheet::printing::next_line(sheet, progress);
+    let line = printed.line;
+    match xdr_sheet::text::append(line, text, 0) {
+        Placed::At(next) => next,
+        Placed::Full => 0,
+    }
 }

@@ -1,0 +1,260 @@
+/* Calls every function of include/quoter.h.
+
+   usage: c-test             values known from document 01: refusals, the sample sheet, keystrokes
+          c-test vectors     the interface of `vectors` but for signum, max and min
+          c-test lines       the interface of `sheet`, by quoter_sheet_line
+          c-test quotes      the same, by quoter_sheet_size and quoter_sheet_quote
+
+   Exit status 1 where a known value differs. */
+#include "quoter.h"
+
+#include <inttypes.h>
+#include <math.h>
+#include <stdio.h>
+#include <string.h>
+
+static const double UNTOUCHED = -12345.0;
+static unsigned run, differ;
+
+static uint64_t bits(double x)
+{
+    uint64_t b;
+    memcpy(&b, &x, sizeof b);
+    return b;
+}
+
+static uint64_t word(const uint8_t *s, int bytes)
+{
+    uint64_t w = 0;
+    for (int i = 0; i < bytes; i++)
+        w = w << 8 | s[i];
+    return w;
+}
+
+static double figure(const uint8_t *s)
+{
+    uint64_t b = word(s, 8);
+    double x;
+    memcpy(&x, &b, sizeof x);
+    return x;
+}
+
+static void put(uint8_t *s, uint64_t w, int bytes)
+{
+    for (int i = bytes - 1; i >= 0; i--, w >>= 8)
+        s[i] = (uint8_t)w;
+}
+
+/* The text of a reply, as a sheet prints it after the quote's number. */
+static void print_reply(uint32_t number, double total, double volatility, uint64_t count)
+{
+    if (number == 0)
+        printf("V %016" PRIx64 " %016" PRIx64 " %" PRIu64 "\n", bits(total), bits(volatility), count);
+    else
+        printf("R %" PRIu32 " %" PRIu64 "\n", number, count);
+}
+
+static void check(const char *what, int right)
+{
+    run++;
+    if (!right) {
+        differ++;
+        printf("%s differs\n", what);
+    }
+}
+
+static void value(const char *what, double found, double right)
+{
+    check(what, bits(found) == bits(right));
+}
+
+/* A refusal leaves the figures as they were; refusals known here and the answers known here count 0. */
+static void quote(const char *what, uint32_t side, double price, double forward, double strike, double time, uint32_t number, double figures)
+{
+    double total = UNTOUCHED, volatility = UNTOUCHED, right = number == 0 ? figures : UNTOUCHED;
+    uint64_t count = 7;
+    uint32_t found = quoter_quote(side, price, forward, strike, time, &total, &volatility, &count);
+    check(what, found == number && bits(total) == bits(right) && bits(volatility) == bits(right) && count == 0);
+}
+
+static void normalised(const char *what, double log_moneyness, double price, uint32_t number)
+{
+    double total = UNTOUCHED, volatility = UNTOUCHED;
+    uint64_t count = 7;
+    uint32_t found = quoter_normalised(log_moneyness, price, &total, &volatility, &count);
+    check(what, found == number && total == UNTOUCHED && volatility == UNTOUCHED && count == 0);
+}
+
+static void known_values(void)
+{
+    value("root of 4", quoter_sqrt(4.0), 2.0);
+    value("root of 2^-1074", quoter_sqrt(0x1p-1074), 0x1p-537);
+    value("fused product", quoter_mul_add(1.0 + 0x1p-30, 1.0 - 0x1p-30, -1.0), -0x1p-60);
+    value("truncation of -0.5", quoter_trunc(-0.5), -0.0);
+    value("exp 0", quoter_exp(0.0), 1.0);
+    value("ln 1", quoter_ln(1.0), 0.0);
+    value("price at t = 0", quoter_normalised_black(-1.0, -1.0, 0.0), 0.0);
+    check("ln_1p outside", isnan(quoter_ln_1p(2.0)));
+    value("forward 5 and strike 2 units of 2^-1074", quoter_negative_abs_log_moneyness(0x5p-1074, 0x2p-1074), -quoter_ln_1p(1.5));
+}
+
+static void known_replies(void)
+{
+    quote("price zero", 0, 0.0, 100.0, 120.0, 1.0, 0, 0.0);
+    quote("price at its bound", 0, 100.0, 100.0, 120.0, 1.0, 0, INFINITY);
+    quote("intrinsic at time zero", 0, 20.0, 120.0, 100.0, 0.0, 0, 0.0);
+    quote("refusal 1", 2, 1.0, 100.0, 100.0, 1.0, 1, 0.0);
+    quote("refusal 2", 0, NAN, 100.0, 100.0, 1.0, 2, 0.0);
+    quote("refusal 3", 0, 1.0, 0.0, 100.0, 1.0, 3, 0.0);
+    quote("refusal 4", 0, 1.0, 100.0, 100.0, -1.0, 4, 0.0);
+    quote("refusal 5", 0, 19.0, 120.0, 100.0, 0.0, 5, 0.0);
+    quote("refusal 6", 0, 101.0, 100.0, 120.0, 1.0, 6, 0.0);
+    quote("one unit above", 0, 100.0 + 0x1p-46, 100.0, 120.0, 1.0, 6, 0.0);
+    quote("refusal 7", 1, 5.0, 100.0, 120.0, 1.0, 7, 0.0);
+    normalised("refusal 7, normalised", 0.0, -1.0, 7);
+    normalised("refusal 8", 0.0, 2.0, 8);
+}
+
+/* A quote and the put that document 01 pairs with it: equal totals, equal counts. */
+static void known_pair(void)
+{
+    double total[2] = {UNTOUCHED, UNTOUCHED}, volatility[2];
+    uint64_t count[2];
+    uint32_t call = quoter_quote(0, 1.0, 100.0, 120.0, 1.0, &total[0], &volatility[0], &count[0]);
+    uint32_t put = quoter_quote(1, 4.0, 480.0, 400.0, 1.0, &total[1], &volatility[1], &count[1]);
+    check("call and put", call == 0 && put == 0 && total[0] > 0.0 && bits(total[0]) == bits(total[1]) && count[0] == count[1]);
+}
+
+static void known_sheet(void)
+{
+    static const double figures[3][4] = {{0.0, 100.0, 120.0, 1.0}, {100.0, 100.0, 120.0, 1.0}, {5.0, 100.0, 120.0, 1.0}};
+    static const char *lines[4] = {"1 V 0000000000000000 0000000000000000 0\n", "2 V 7ff0000000000000 7ff0000000000000 0\n", "3 R 7 0\n", "T 2 1\n"};
+    uint8_t sheet[112], text[81];
+    uint32_t quotes = 7;
+    put(sheet, 3, 4);
+    for (int i = 0; i < 3; i++) {
+        put(sheet + 4 + 36 * i, i == 2, 4);
+        for (int j = 0; j < 4; j++)
+            put(sheet + 8 + 36 * i + 8 * j, bits(figures[i][j]), 8);
+    }
+    check("size", quoter_sheet_size(sheet, sizeof sheet, &quotes) == 0 && quotes == 3);
+    for (uint32_t i = 0; i < 4; i++) {
+        size_t length = strlen(lines[i]);
+        memset(text, '#', sizeof text);
+        check("line", quoter_sheet_line(sheet, sizeof sheet, i < 2 ? i : 2, i == 3, text, sizeof text) == length && memcmp(text, lines[i], length) == 0 && text[length] == '#');
+        memset(text, '#', sizeof text);
+        check("no room", quoter_sheet_line(sheet, sizeof sheet, i < 2 ? i : 2, i == 3, text, length - 1) == 0 && text[0] == '#');
+    }
+    double total = UNTOUCHED, volatility = UNTOUCHED;
+    uint64_t count = 7;
+    check("no such quote", quoter_sheet_quote(sheet, sizeof sheet, 3, &total, &volatility, &count) == 10 && total == UNTOUCHED && volatility == UNTOUCHED && count == 0);
+    quotes = 7;
+    check("refusal 10", quoter_sheet_size(sheet, 3, &quotes) == 10 && quotes == 7);
+    check("line of refusal 10", quoter_sheet_line(sheet, 3, 0, 0, text, sizeof text) == 5 && memcmp(text, "S 10\n", 5) == 0);
+}
+
+static int known(void)
+{
+    known_values();
+    known_replies();
+    known_pair();
+    known_sheet();
+    printf("%u checks, %u differ\n", run, differ);
+    return differ > 0;
+}
+
+/* The function of `vectors` with that number, on up to three figures. */
+static double of_number(uint64_t number, double a, double b, double c)
+{
+    switch (number) {
+    case 1: return quoter_sqrt(a);
+    case 2: return quoter_mul_add(a, b, c);
+    case 3: return quoter_exp(a);
+    case 4: return quoter_ln(a);
+    case 5: return quoter_ln_1p(a);
+    case 6: return quoter_trunc(a);
+    case 10: return quoter_erf_cody(a);
+    case 11: return quoter_erfc_cody(a);
+    case 12: return quoter_erfcx_cody(a);
+    case 13: return quoter_erfinv(a);
+    case 14: return quoter_norm_pdf(a);
+    case 15: return quoter_norm_cdf(a);
+    case 16: return quoter_inverse_norm_cdf(a);
+    case 17: return quoter_normalised_black(a, b, c);
+    case 18: return quoter_negative_abs_log_moneyness(a, b);
+    case 20: return quoter_inverse_gaussian_cdf(a, b);
+    default: return quoter_inverse_gaussian_survival(a, b);
+    }
+}
+
+static int vectors(void)
+{
+    uint8_t record[28];
+    while (fread(record, 1, sizeof record, stdin) == sizeof record) {
+        uint64_t number = word(record, 4), count = 0;
+        double a = figure(record + 4), b = figure(record + 12), total = UNTOUCHED, volatility = UNTOUCHED;
+        if (number == 19) {
+            uint32_t refused = quoter_normalised(a, b, &total, &volatility, &count);
+            print_reply(refused, total, volatility, count);
+            continue;
+        }
+        double result = of_number(number, a, b, figure(record + 20));
+        if (isnan(result))
+            puts("nan");
+        else
+            printf("%016" PRIx64 "\n", bits(result));
+    }
+    return 0;
+}
+
+static int lines(const uint8_t *sheet, size_t length)
+{
+    uint8_t text[80];
+    uint32_t answers = 0, refusals = 0;
+    for (;;) {
+        size_t n = quoter_sheet_line(sheet, length, answers, refusals, text, sizeof text);
+        fwrite(text, 1, n, stdout);
+        if (n == 0 || text[0] == 'T' || text[0] == 'S')
+            return n == 0;
+        if (memchr(text, 'V', n) != NULL)
+            answers++;
+        else
+            refusals++;
+    }
+}
+
+static int quotes(const uint8_t *sheet, size_t length)
+{
+    uint32_t count = 0, answers = 0;
+    uint32_t refused = quoter_sheet_size(sheet, length, &count);
+    if (refused != 0) {
+        printf("S %" PRIu32 "\n", refused);
+        return 0;
+    }
+    for (uint32_t i = 0; i < count; i++) {
+        double total = UNTOUCHED, volatility = UNTOUCHED;
+        uint64_t evaluations = 0;
+        uint32_t number = quoter_sheet_quote(sheet, length, i, &total, &volatility, &evaluations);
+        answers += number == 0;
+        printf("%" PRIu32 " ", i + 1);
+        print_reply(number, total, volatility, evaluations);
+    }
+    printf("T %" PRIu32 " %" PRIu32 "\n", answers, count - answers);
+    return 0;
+}
+
+int main(int argc, char **argv)
+{
+    static uint8_t sheet[36005];
+    const char *mode = argc == 2 ? argv[1] : "";
+    if (argc == 1)
+        return known();
+    if (strcmp(mode, "vectors") == 0)
+        return vectors();
+    if (strcmp(mode, "lines") == 0)
+        return lines(sheet, fread(sheet, 1, sizeof sheet, stdin));
+    if (strcmp(mode, "quotes") == 0)
+        return quotes(sheet, fread(sheet, 1, sizeof sheet, stdin));
+    fputs("usage: c-test [vectors | lines | quotes]\n", stderr);
+    return 2;
+}

@@ -1,6 +1,6 @@
 /* The Black volatility of a quote, and the functions of the layers below it, in the static library of the crate `exports`.
    Each function takes every bit pattern, ends, and keeps no state. It needs nothing but memcpy.
-   Pointers are aligned and not null; no place given to a call overlaps another, nor the bytes. */
+   Pointers are aligned and not null; what a call is given overlaps nothing else that it is given. */
 #ifndef QUOTER_H
 #define QUOTER_H
 
@@ -38,12 +38,12 @@ uint32_t quoter_normalised(double log_moneyness, double price, double *total, do
 /* A sheet in XDR. 0: the number of its quotes is written. 10: it is refused, and nothing is written. */
 uint32_t quoter_sheet_size(const uint8_t *sheet, size_t length, uint32_t *quotes);
 
-/* The quote of a sheet with `index` quotes before it, as quoter_quote; 10, with count 0, where there is none. */
+/* The quote of a sheet with `index` quotes before it, as quoter_quote; 10, with count 0 and the figures as they were, where there is none. */
 uint32_t quoter_sheet_quote(const uint8_t *sheet, size_t length, uint64_t index,
                             double *total, double *volatility, uint64_t *count);
 
 /* Writes the line after those of so many answers and refusals to the start of `text`, and returns its length: at most 78 bytes.
-   0: `text` has no room and is as before. Past the last quote the line is that of the tallies, or of a refused sheet. */
+   The line ends with a newline and no zero byte; the rest of `text` is as before. 0: `text` has no room and is as before. Past the last quote the line is that of the tallies, or of a refused sheet. */
 size_t quoter_sheet_line(const uint8_t *sheet, size_t length, uint32_t answers, uint32_t refusals, uint8_t *text, size_t room);
 
 #ifdef __cplusplus

@@ -8,7 +8,7 @@ mod Cutting
 mod OneScale
 mod Aligning
 mod Fusing
-mod Karatsuba
+mod RootDigits
 mod SqrtPaths
 mod Truncating
 mod Exponential

@@ -15,7 +15,7 @@ use Rattle.arithmetic.specs.Sqrt.{sqrtUnits, sqrt}
 use Rattle.arithmetic.specs.Laws.Patterns.{signed-is, at-zero, above-zero, subnormal, normal, built, no-nan}
 use Rattle.arithmetic.specs.Laws.WholeRoots.{units-at}
 use Rattle.arithmetic.specs.Laws.SqrtValues.{sqrt-of, sqrt-below}
-use Rattle.arithmetic.proofs.Karatsuba.{Closest}
+use Rattle.arithmetic.proofs.RootDigits.{Closest}
 
 -- ---- NaN, the infinity, and the two zeros
 at-nan : sqrt nan ≡ nan

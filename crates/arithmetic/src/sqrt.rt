@@ -6,82 +6,25 @@ ghost use lib.Dec.{T};
 ghost use Rattle.arithmetic.specs.Sqrt.{closestRoot, sqrtUnits, sqrt};
 use super::root_table;
 
-// The whole part of f, for an f from 1 to 2^28 that is no whole number; some number for any other.
-// From 2^52 to 2^53 the whole numbers are the values of f64, and their last digits are the pattern's.
-fn whole_part(f: f64) -> u64
-    ensures { λ r. ⌜ r < 2 ^ 28 ⌝ }
-{
-    let h = f + 4503599627370495.5;
-    if h != h {
-        return 0;
-    }
-    f64::to_bits(h) % 268435456
-}
-
-// A guess at the whole part of scale * √z, for z = m / 2^52 from 1 to 2: nearly always right, and no
-// proof asks it to be. The polynomial is within 0.0012% of 1 / √z, and Newton's step squares the error.
-fn guess(m: u64, scale: f64) -> u64
-    requires { ⌜ m < 2 ^ 53 ⌝ }
-    ensures { λ r. ⌜ r < 2 ^ 28 ⌝ }
-{
-    let z = (m as f64) * 0.0000000000000002220446049250313;
-    let t = z * z;
-    let a = 2.2787871555138013 - 2.6669131232480034 * z;
-    let b = 2.220186168711395 - 1.0871256438441566 * z;
-    let c = 0.2864577111865978 - 0.03140391456398424 * z;
-    let y = a + t * (b + t * c);
-    whole_part(z * (y * (1.5 - 0.5 * z * y * y)) * scale)
-}
-
-// The whole part of √w: a guess, put right step by step.
-fn whole_root(w: u64, guess: u64) -> u64
-    requires { ⌜ w < 2 ^ 54 ⌝ }
-    ensures { λ r. ⌜ (r * r ≤ w) × (w < (r + 1) * (r + 1)) ⌝ }
-{
-    let mut r = guess;
-    if 134217728 < r {
-        r = 134217728;
-    }
-    while w < r * r {
-        r -= 1;
-    }
-    while (r + 1) * (r + 1) <= w {
-        r += 1;
-    }
-    r
-}
-
-// e * 2^26 / (2s), by the division of floats, which is faster, where a check finds it right.
-fn quotient(e: u64, s: u64) -> u64
-    requires { ⌜ (e ≤ 2 * s) × (0 < s) × (s < 2 ^ 27) ⌝ }
-    ensures { λ r. ⌜ r ≡ e * 67108864 / (2 * s) ⌝ }
-{
-    let n = e * 67108864;
-    let d = whole_part(
-        (((e as u32) as f64) + 0.0009765625) / (((s as u32) as f64) * 0.0000000298023223876953125),
-    );
-    let t = d * (2 * s);
-    if t <= n {
-        if n - t < 2 * s {
-            return d;
-        }
-    }
-    n / (2 * s)
-}
-
-// The whole number nearest to √(w * 2^52). With s² + e = w for the whole root s, and d and u the
-// quotient and the remainder of e * 2^26 by 2s, q = s * 2^26 + d is the whole root or one more:
-// w * 2^52 = q² + u * 2^26 - d².
-fn closest(w: u64, guess: u64) -> u64
+// The whole number nearest to √(w * 2^52). Each turn takes two binary digits more of w * 2^52 and finds one of the
+// root: r is the whole root of those taken, e how much they are above r², and rest the digits of w to come.
+fn closest(w: u64) -> u64
     requires { ⌜ (2 ^ 52 ≤ w) × (w + 1 < 2 ^ 54) ⌝ }
     ensures { λ r. ⌜ (r ≡ closestRoot (w * 2 ^ 52) 0) × (2 ^ 52 ≤ r) × (r < 2 ^ 53) ⌝ }
 {
-    let s = whole_root(w, guess);
-    let e = w - s * s;
-    let d = quotient(e, s);
-    let u = e * 67108864 - d * (2 * s);
-    let q = s * 67108864 + d;
-    if q + d * d < u * 67108864 { q + 1 } else { q }
+    let mut r = 0;
+    let mut e = 0;
+    let mut rest = w;
+    for _ in 0u32..53 {
+        e = 4 * e + rest / 4503599627370496;
+        rest = rest % 4503599627370496 * 4;
+        r = 2 * r;
+        if 2 * r < e {
+            e = e - 2 * r - 1;
+            r += 1;
+        }
+    }
+    if r < e { r + 1 } else { r }
 }
 
 // √(m * 2^p) units of 2^-1074, rounded.
@@ -91,12 +34,10 @@ fn of_digits(m: u64, p: u64) -> f64
 {
     let k = (p - 52) / 2;
     let mut w = m;
-    let mut scale = 67108864.015;
     if p % 2 != 0 {
         w = 2 * m;
-        scale = 94906265.645;
     }
-    f64::from_bits(k * 4503599627370496 + closest(w, guess(m, scale)))
+    f64::from_bits(k * 4503599627370496 + closest(w))
 }
 
 // An estimate of √x for the normal x above 0 with pattern b: the nearest f64 for all but about 1 in 200, and no proof

@@ -8,21 +8,21 @@ use Rattle.arithmetic.proofs.sqrt.of_digits.Statement.{statement}
 use Rattle.arithmetic.proofs.sqrt.of_digits.Tie as tie
 
 closest-requires : tie.Need-closest-requires
-closest-requires c κs = ⊎-elim (λ h. omega arith) (λ h. omega arith) (c .before .if1 .came)
+closest-requires c κs = ⊎-elim (λ h. omega arith) (λ h. omega arith) (c .if1 .came)
 
 float-from-bits-result : tie.Need-float-from-bits-result
 float-from-bits-result c = built-no-nan _ _ (omega arith) (c .closest .ensures .2)
 
 returns : tie.Need-returns
 returns c =
-    let a = c .before .before .before .args in
+    let a = c .before .before .args in
     ⊎-elim
     (λ h. pattern-at (a .m) (a .p) _ 53 (c .closest .result) (omega arith) (omega arith) (omega arith) (omega arith) (omega arith) (c .closest .ensures))
     (λ h. pattern-at (a .m) (a .p) _ 52 (c .closest .result) (omega arith) (omega arith) (omega arith) (omega arith) (omega arith) (c .closest .ensures))
-    (c .before .before .if1 .came)
+    (c .before .if1 .came)
 
 pub of-digits-spec : {M : Type 1} → statement M
 of-digits-spec =
     tie.close
-    (tie.spec (λ c. search needs) (λ c. search needs) (λ c. search needs) (λ c κs. search needs) closest-requires
+    (tie.spec (λ c. search needs) (λ c. search needs) (λ c. search needs) closest-requires
     (λ c. search needs) float-from-bits-result returns)

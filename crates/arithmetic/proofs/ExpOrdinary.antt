@@ -20,7 +20,7 @@ use lib.Ieee.Positive.{num, den, den-pos}
 use Rattle.arithmetic.specs.Operations.{_⊕_, _⊖_, _⊗_}
 use Rattle.arithmetic.specs.Basic.{minus?}
 use Rattle.arithmetic.specs.WholePart.{wholePart}
-use Rattle.arithmetic.specs.Exp.{perLn2, highest, lowest, beyond, reduced, scaled, exp}
+use Rattle.arithmetic.specs.Exp.{perLn2, highest, lowest, halfAway, reduced, scaled, exp}
 use Rattle.arithmetic.specs.ExpSteps.{limit, ordinary, shift, shifted, gap, rest, near}
 use Rattle.arithmetic.specs.Laws.Numbers.{lt-or-le, false-not}
 use Rattle.arithmetic.specs.Laws.Times.{cross, has-sign, has-finite, of-cross, rescale, neg-num, neg-den, neg-sign, neg-finite}
@@ -32,7 +32,7 @@ use Rattle.arithmetic.specs.Laws.Compare.{finite-no-nan}
 use Rattle.arithmetic.specs.Laws.Bounds.{AtMost, round-at-most, le-cross}
 use Rattle.arithmetic.specs.Laws.PowersOfTwo.{times-power, high-power}
 use Rattle.arithmetic.proofs.Truncating.{whole-large, whole-value}
-use Rattle.arithmetic.proofs.Exponential.{product-at-most, beyond-round, place, part-is, exp-is}
+use Rattle.arithmetic.proofs.Exponential.{product-at-most, half-away-round, place, part-is, exp-is}
 use Rattle.arithmetic.proofs.ZeroSign.{either-zero}
 
 -- ---- what is no smaller than a value of the format rounds to no less
@@ -424,13 +424,13 @@ module _ (x : Float) (F : T (fits binary64 x)) (h : T (ordinary x)) where
       let over = is-true (lt (neg gap) (rest x)) (and-r (lt (rest x) gap) (lt (neg gap) (rest x)) g) in
       let a = agree (minus? v) u n (num v) (den v) (den-pos v) (rest-small v k u n (at-most .is-finite) K under over) in
       let sign : (n ≡ 0) ⊎ (u ≡ s) = subst (λ (b : Bool). (n ≡ 0) ⊎ (u ≡ b)) (at-most .sign) (a .0) in
-      let part : n ≡ wholePart (beyond s x) = floor-is s n (num v) (den v) (den-pos v) few (a .1) ∙ ap wholePart (sym (beyond-round s x (at-most .is-finite) (at-most .sign))) in
+      let part : n ≡ wholePart (halfAway s x) = floor-is s n (num v) (den v) (den-pos v) few (a .1) ∙ ap wholePart (sym (half-away-round s x (at-most .is-finite) (at-most .sign))) in
       ap (λ (b : ℕ). y ⊗ ofBits binary64 (b * 4503599627370496)) (ap (λ (b : ℕ). b - 4843621399236968448) pattern-is ∙ less j)
       ∙ times-power y (ofBits binary64 (j * 4503599627370496)) (52 + j) (is-power j (S .some) (S .few))
       ∙ ap (λ (q : ℕ). scaled y (minus q 1075)) (sym (place-is j (S .some)))
       ∙ ap (λ (z : Float). scaled z (minus (place u n) 1075)) (e ∙ ap (reduced x) k-round)
       ∙ either-sign x F (size .0) s u n sign
-      ∙ exp-is x (finite-no-nan x (size .0)) (not-over x (size .0) (size .1)) (not-under x (size .0) (size .1)) s (beyond s x) n refl refl part
+      ∙ exp-is x (finite-no-nan x (size .0)) (not-over x (size .0) (size .1)) (not-under x (size .0) (size .1)) s (halfAway s x) n refl refl part
     where
       less : (j : ℕ) → 4843621399236968448 + j - 4843621399236968448 ≡ j
       less j = omega arith

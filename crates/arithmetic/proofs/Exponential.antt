@@ -14,7 +14,7 @@ use lib.Ieee.Scale.{finite}
 use lib.Ieee.Positive.{num, den, den-pos, through}
 use Rattle.arithmetic.specs.Operations.{_⊗_, nought, infinity}
 use Rattle.arithmetic.specs.Basic.{minus?, trunc}
-use Rattle.arithmetic.specs.Exp.{perLn2, highest, lowest, beyond, reduced, scaled, exp}
+use Rattle.arithmetic.specs.Exp.{perLn2, highest, lowest, halfAway, reduced, scaled, exp}
 use Rattle.arithmetic.specs.WholePart.{wholePart}
 use Rattle.arithmetic.specs.Laws.Sums.{add-is}
 use Rattle.arithmetic.specs.Laws.Bounds.{AtMost, round-at-most}
@@ -63,10 +63,10 @@ per-value : HasValue perLn2 false (num perLn2) (den perLn2) × (0 < num perLn2)
 unfolding ofBits
 per-value = ((refl, refl), lit≤ tt)
 
-beyond-is : (s : Bool) (x : Float) → beyond s x ≡ add binary64 (x ⊗ perLn2) (fin s 1 (negsuc 0))
-unfolding beyond sub neg ofBits
-beyond-is true x = refl
-beyond-is false x = refl
+half-away-is : (s : Bool) (x : Float) → halfAway s x ≡ add binary64 (x ⊗ perLn2) (fin s 1 (negsuc 0))
+unfolding halfAway sub neg ofBits
+half-away-is true x = refl
+half-away-is false x = refl
 
 sum-alike : (s : Bool) (a b c : ℕ) → sum binary64 s a s b c ≡ round binary64 s (a + b) c
 unfolding sum
@@ -90,10 +90,10 @@ product-at-most x bound r p h F q g =
     g))
 
 -- and a half away from zero
-pub beyond-round : (s : Bool) (x : Float) → T (finite (x ⊗ perLn2)) → minus? (x ⊗ perLn2) ≡ s → beyond s x ≡ round binary64 s (num (x ⊗ perLn2) * 2 + 1 * 1 * den (x ⊗ perLn2)) (den (x ⊗ perLn2) * 2)
-beyond-round s x p e =
+pub half-away-round : (s : Bool) (x : Float) → T (finite (x ⊗ perLn2)) → minus? (x ⊗ perLn2) ≡ s → halfAway s x ≡ round binary64 s (num (x ⊗ perLn2) * 2 + 1 * 1 * den (x ⊗ perLn2)) (den (x ⊗ perLn2) * 2)
+half-away-round s x p e =
     let w = x ⊗ perLn2 in
-    beyond-is s x
+    half-away-is s x
     ∙ add-is binary64 w (fin s 1 (negsuc 0)) p tt
     ∙ ap (λ (t : Bool). sum binary64 t (num w * 2) s (1 * 1 * den w) (den w * 2)) e
     ∙ sum-alike s (num w * 2) (1 * 1 * den w) (den w * 2)
@@ -102,20 +102,20 @@ module _ (x : Float) (p : T (finite x)) (h : num x * den (limit (minus? x)) ≤ 
   abbrev s : Bool
   s = minus? x
 
-  beyond-at-most : AtMost s (second s) (beyond s x)
-  beyond-at-most =
+  half-away-at-most : AtMost s (second s) (halfAway s x)
+  half-away-at-most =
       let w = x ⊗ perLn2 in
       let b : AtMost s (first s) w = product-at-most x (limit s) (first s) p h (both-fit s .0) tt (limit-times s) in
-      subst (λ (z : Float). AtMost s (second s) z) (sym (beyond-round s x (b .is-finite) (b .sign)))
+      subst (λ (z : Float). AtMost s (second s) z) (sym (half-away-round s x (b .is-finite) (b .sign)))
       (round-at-most binary64 s (num w * 2 + 1 * 1 * den w) (den w * 2) (second s) (mul-pos (den-pos w) (lit≤ tt)) (both-fit s .1) tt (half-more (most s) (num w) (den w) (b .bound)))
     where
       half-more : (k n d : ℕ) → n * 4 ≤ (4 * k + 1) * 1 * d → (n * 2 + 1 * 1 * d) * 4 ≤ (4 * k + 3) * 1 * (d * 2)
       half-more k n d h = omega arith
 
-  known-at : Known s (beyond s x)
+  known-at : Known s (halfAway s x)
   known-at =
-      let w = beyond s x in
-      let b : AtMost s (second s) w = beyond-at-most in
+      let w = halfAway s x in
+      let b : AtMost s (second s) w = half-away-at-most in
       record {
         is-finite = b .is-finite;
         sign = b .sign;
@@ -128,10 +128,10 @@ module _ (x : Float) (p : T (finite x)) (h : num x * den (limit (minus? x)) ≤ 
       le-of-lt-suc : {a k : ℕ} → a < k + 1 → a ≤ k
       le-of-lt-suc h = omega arith
 
-pub known : (x : Float) → isNan x ≡ false → lt highest x ≡ false → lt x lowest ≡ false → (s : Bool) (w : Float) → s ≡ minus? x → w ≡ beyond s x → Known s w
+pub known : (x : Float) → isNan x ≡ false → lt highest x ≡ false → lt x lowest ≡ false → (s : Bool) (w : Float) → s ≡ minus? x → w ≡ halfAway s x → Known s w
 known x n h l s w e v =
     let p : T (finite x) = between-finite x n h l in
-    subst (Known s) (sym v) (subst (λ (t : Bool). Known t (beyond t x)) (sym e) (known-at x p (within-limit x p h l)))
+    subst (Known s) (sym v) (subst (λ (t : Bool). Known t (halfAway t x)) (sym e) (known-at x p (within-limit x p h l)))
 
 -- ---- k as a float, and as a whole number
 trunc-is : (w : Float) → T (finite w) → trunc w ≡ round binary64 (minus? w) (num w / den w) 1
@@ -214,16 +214,16 @@ module _ (x : Float) (n : isNan x ≡ false) where
     unfolding exp
     exp-under l = rw (n, h, l) refl
 
-    exp-between : lt x lowest ≡ false → exp x ≡ scaled (reduced x (trunc (beyond (minus? x) x))) (toSigned 63 (trunc (beyond (minus? x) x)))
+    exp-between : lt x lowest ≡ false → exp x ≡ scaled (reduced x (trunc (halfAway (minus? x) x))) (toSigned 63 (trunc (halfAway (minus? x) x)))
     unfolding exp
     exp-between l = rw (n, h, l) refl
 
-    pub exp-is : (l : lt x lowest ≡ false) (s : Bool) (w : Float) (m : ℕ) → s ≡ minus? x → w ≡ beyond s x → m ≡ wholePart w → scaled (reduced x (round binary64 s m 1)) (minus (place s m) 1075) ≡ exp x
+    pub exp-is : (l : lt x lowest ≡ false) (s : Bool) (w : Float) (m : ℕ) → s ≡ minus? x → w ≡ halfAway s x → m ≡ wholePart w → scaled (reduced x (round binary64 s m 1)) (minus (place s m) 1075) ≡ exp x
     exp-is l s w m e v p =
         let K : Known s w = known x n h l s w e v in
-        let k = trunc (beyond (minus? x) x) in
+        let k = trunc (halfAway (minus? x) x) in
         let k-is : k ≡ round binary64 s m 1 =
-        ap (λ (t : Bool). trunc (beyond t x)) (sym e)
+        ap (λ (t : Bool). trunc (halfAway t x)) (sym e)
         ∙ ap trunc (sym v)
         ∙ trunc-is w (K .is-finite)
         ∙ ap (λ (t : Bool). round binary64 t (num w / den w) 1) (K .sign)

@@ -24,8 +24,8 @@ abbrev pub lowest : Float
 lowest = bits 0xC087_4910_D52D_3051
 
 -- x / ln 2, and a half away from zero by the sign; k is its whole part
-unfoldable pub beyond : Bool → Float → Float
-beyond s x = cond s (x ⊗ perLn2 ⊖ half) (x ⊗ perLn2 ⊕ half)
+unfoldable pub halfAway : Bool → Float → Float
+halfAway s x = cond s (x ⊗ perLn2 ⊖ half) (x ⊗ perLn2 ⊕ half)
 
 -- y, with 01's P1 to P5
 unfoldable pub reduced : Float → Float → Float
@@ -50,7 +50,7 @@ scaled (fin s m e) k = round binary64 s (m * up e * up k) (down e * down k)
 
 -- `toSigned 63` is the whole number that k is: k is far from the ends of its range
 unfoldable pub exp : Float → Float
-unfolding add sub mul div lt isNan toSigned ofBits trunc beyond reduced scaled
+unfolding add sub mul div lt isNan toSigned ofBits trunc halfAway reduced scaled
 exp x =
-    let k = trunc (beyond (minus? x) x) in
+    let k = trunc (halfAway (minus? x) x) in
     cond (isNan x) nan (cond (lt highest x) infinity (cond (lt x lowest) nought (scaled (reduced x k) (toSigned 63 k))))

@@ -5,7 +5,7 @@ ghost use Prim.Native.Nat.{_+_, _-_, _^_, _<_};
 ghost use lib.Dec.{T};
 ghost use lib.Ieee.{binary64, minus, mul};
 ghost use lib.Ieee.Exact.{HasValue};
-ghost use Rattle.arithmetic.specs.Exp.{beyond, reduced, scaled, exp};
+ghost use Rattle.arithmetic.specs.Exp.{halfAway, reduced, scaled, exp};
 ghost use Rattle.arithmetic.specs.ExpSteps.{ordinary, near};
 use super::basic::signed;
 use super::basic::whole_part;
@@ -34,8 +34,8 @@ const SHIFT: f64 = 6755399441056767.0;
 const NEAR: f64 = 0.4999847412109375;
 
 // x / ln 2, and a half away from zero.
-fn beyond(negative: bool, x: f64) -> f64
-    ensures { λ r. ⌜ r ≡ beyond negative x ⌝ }
+fn half_away(negative: bool, x: f64) -> f64
+    ensures { λ r. ⌜ r ≡ halfAway negative x ⌝ }
 {
     let w = x * PER_LN2;
     if negative { w - 0.5 } else { w + 0.5 }
@@ -111,18 +111,18 @@ fn general(x: f64) -> f64
         return 0.0;
     }
     let negative = 0x8000_0000_0000_0000 <= f64::to_bits(x);
-    let n = whole_part(beyond(negative, x));
+    let n = whole_part(half_away(negative, x));
     scale(reduced(x, signed(negative, n)), exponent(negative, n))
 }
 
-// Whether x has ordinary magnitude.
+// Where this holds, 2^k is a normal number.
 fn is_ordinary(x: f64) -> bool
     ensures { λ r. ⌜ r ≡ ordinary x ⌝ }
 {
     (x < ORDINARY) & (-ORDINARY < x)
 }
 
-// Whether x / ln 2 is near a whole number.
+// Where this holds, the k that SHIFT gives is the k of `general`.
 fn is_near(x: f64) -> bool
     ensures { λ r. ⌜ r ≡ near x ⌝ }
 {

@@ -5,14 +5,14 @@ use native.Mathlib.Omega.{arith}
 use lib.Ieee.{Float, ofBits}
 use Rattle.arithmetic.specs.Operations.{one}
 use Rattle.arithmetic.specs.Sqrt.{sqrt}
-use Rattle.inverse_gaussian.specs.Counted.{Option, Counted, Metered, have, mapped, pay, afford}
-use Rattle.inverse_gaussian.specs.LawsCounted.{afford-enough}
+use Rattle.inverse_gaussian.specs.Counted.{Option, Counted, Metered, have, mapped, pay, limited}
+use Rattle.inverse_gaussian.specs.LawsCounted.{limited-enough}
 use Rattle.explicit_black.specs.Quote.{Outcome, total, refused, answer, refusal, volatility, reply, searched, totalAt}
 use Rattle.explicit_black.specs.Replies.{Within}
 
 -- the result, the count, which is what was taken off, and that no more is left than was allowed
-pub taken-off : {R : Type 0} (n left : ℕ) (r : R) (c : Counted R) → have r left ≡ afford n c → (c .result ≡ r) × (left + c .count ≡ n)
-unfolding afford
+pub taken-off : {R : Type 0} (n left : ℕ) (r : R) (c : Counted R) → have r left ≡ limited n c → (c .result ≡ r) × (left + c .count ≡ n)
+unfolding limited
 taken-off {R = R} n left r c e = go (c .count) n e
   where
     go : (k n : ℕ) → have r left ≡ pay (c .result) k n → (c .result ≡ r) × (left + k ≡ n)
@@ -21,9 +21,9 @@ taken-off {R = R} n left r c e = go (c .count) n e
     go (suc k) (suc n) e = let q = go k n e in (q .0, omega arith)
 
 -- a search's total, for what is allowed
-pub afford-searched : (n : ℕ) (c : Counted (Option Float)) → afford n (searched c) ≡ mapped totalAt (afford n c)
-unfolding afford
-afford-searched n c = go (c .result) (c .count) n
+pub limited-searched : (n : ℕ) (c : Counted (Option Float)) → limited n (searched c) ≡ mapped totalAt (limited n c)
+unfolding limited
+limited-searched n c = go (c .result) (c .count) n
   where
     go : (r : Option Float) (k n : ℕ) → pay (totalAt r) k n ≡ mapped totalAt (pay r k n)
     go r zero n = refl
@@ -31,17 +31,17 @@ afford-searched n c = go (c .result) (c .count) n
     go r (suc k) (suc n) = go r k n
 
 -- with enough allowed, what is left is no more than was allowed
-pub enough-within : (n : ℕ) (m : Metered Outcome) (c : Counted Outcome) → m ≡ afford n c → c .count ≤ n → Within n m
-enough-within n m c e h = subst (Within n) (sym (e ∙ afford-enough n c h)) (omega arith)
+pub enough-within : (n : ℕ) (m : Metered Outcome) (c : Counted Outcome) → m ≡ limited n c → c .count ≤ n → Within n m
+enough-within n m c e h = subst (Within n) (sym (e ∙ limited-enough n c h)) (omega arith)
 
 -- the reply of an outcome from what is left
-pub answers : (n left : ℕ) (time v : Float) (c : Counted Outcome) {w : Float} → have (total v) left ≡ afford n c → w ≡ volatility time v → answer v w (n - left) ≡ reply time c
+pub answers : (n left : ℕ) (time v : Float) (c : Counted Outcome) {w : Float} → have (total v) left ≡ limited n c → w ≡ volatility time v → answer v w (n - left) ≡ reply time c
 answers n left time v c e f =
     let q = taken-off n left (total v) c e in
     let d : n - left ≡ c .count = omega arith in
     rw (q .0, f, d)
 
-pub refuses : (n left : ℕ) (time : Float) (number : ℕ) (c : Counted Outcome) → have (refused number) left ≡ afford n c → refusal number (n - left) ≡ reply time c
+pub refuses : (n left : ℕ) (time : Float) (number : ℕ) (c : Counted Outcome) → have (refused number) left ≡ limited n c → refusal number (n - left) ≡ reply time c
 refuses n left time number c e =
     let q = taken-off n left (refused number) c e in
     let d : n - left ≡ c .count = omega arith in

@@ -18,7 +18,7 @@ ghost use Rattle.arithmetic.specs.Basic.{isFinite};
 ghost use Rattle.arithmetic.specs.Operations.{_⊗_, nought};
 ghost use Rattle.arithmetic.specs.Sqrt.{sqrt};
 ghost use Rattle.bs_option_price.specs.BsOptionPrice.{negativeAbsLogMoneyness};
-ghost use Rattle.inverse_gaussian.specs.Counted.{atOnce, mapped, afford};
+ghost use Rattle.inverse_gaussian.specs.Counted.{atOnce, mapped, limited};
 ghost use Rattle.inverse_gaussian.specs.Meanings.{quantile};
 ghost use Rattle.explicit_black.specs.Quote.{impliedNormalisedVolatilityAtm, atTheMoney, totalAt, fromCallPrice, normalisedOutcome, impliedBlackVolatilityNormalised, firstRefusal, intrinsicValue, priceBound, normalisedTimeValue, valued, priced, inputOutcome, impliedBlackVolatilityInput, volatility};
 ghost use Rattle.explicit_black.specs.Replies.{replied, solved, Within, RepliesTo};
@@ -99,7 +99,7 @@ fn implied_normalised_volatility_atm(beta: f64) -> f64
 
 // Refused where the value is NaN or below 0.
 fn at_the_money(price: f64, allowed: u64) -> Solved
-    ensures { λ r. ⌜ solved r ≡ afford allowed (atOnce (atTheMoney price)) ⌝ }
+    ensures { λ r. ⌜ solved r ≡ limited allowed (atOnce (atTheMoney price)) ⌝ }
 {
     let total = implied_normalised_volatility_atm(price);
     if total >= 0.0 {
@@ -126,7 +126,7 @@ fn total(root: Quantile) -> Solved
 
 // The price is given as a fraction of its bound.
 fn from_call_price(otm_call_price: f64, mu: f64, allowed: u64) -> Solved
-    ensures { λ r. ⌜ solved r ≡ afford allowed (fromCallPrice «otm_call_price» mu) ⌝ }
+    ensures { λ r. ⌜ solved r ≡ limited allowed (fromCallPrice «otm_call_price» mu) ⌝ }
 {
     if otm_call_price < 1.0e-5 {
         return total(inverse_gaussian_quantile_from_survival(otm_call_price, mu, allowed));
@@ -143,7 +143,7 @@ fn from_call_price(otm_call_price: f64, mu: f64, allowed: u64) -> Solved
 
 // The normalised entry after its test for figures that are not finite, with an allowance.
 pub fn normalised_outcome(log_moneyness: f64, price: f64, allowed: u64) -> Solved
-    ensures { λ r. ⌜ solved r ≡ afford allowed (normalisedOutcome «log_moneyness» price) ⌝ }
+    ensures { λ r. ⌜ solved r ≡ limited allowed (normalisedOutcome «log_moneyness» price) ⌝ }
 {
     if price <= 0.0 {
         if price == 0.0 {
@@ -232,7 +232,7 @@ fn normalised_time_value(price: f64, intrinsic: f64, roots: f64) -> f64
 
 // From the normalised time value on.
 pub fn valued(forward: f64, strike: f64, time_value: f64, allowed: u64) -> Solved
-    ensures { λ r. ⌜ solved r ≡ afford allowed (valued (negativeAbsLogMoneyness forward strike) «time_value») ⌝ }
+    ensures { λ r. ⌜ solved r ≡ limited allowed (valued (negativeAbsLogMoneyness forward strike) «time_value») ⌝ }
 {
     if time_value <= MIN_POSITIVE {
         if time_value >= 0.0 {
@@ -257,7 +257,7 @@ pub fn below_bound(
     root_strike: f64,
     allowed: u64,
 ) -> Solved
-    ensures { λ r. ⌜ solved r ≡ afford allowed (valued (negativeAbsLogMoneyness forward strike) (normalisedTimeValue price intrinsic («root_forward» ⊗ «root_strike»))) ⌝ }
+    ensures { λ r. ⌜ solved r ≡ limited allowed (valued (negativeAbsLogMoneyness forward strike) (normalisedTimeValue price intrinsic («root_forward» ⊗ «root_strike»))) ⌝ }
 {
     let time_value = normalised_time_value(price, intrinsic, root_forward * root_strike);
     valued(forward, strike, time_value, allowed)
@@ -273,7 +273,7 @@ pub fn priced(
     time: f64,
     allowed: u64,
 ) -> Solved
-    ensures { λ r. ⌜ solved r ≡ afford allowed (priced price intrinsic bound (sqrt forward ⊗ sqrt strike) (negativeAbsLogMoneyness forward strike) time) ⌝ }
+    ensures { λ r. ⌜ solved r ≡ limited allowed (priced price intrinsic bound (sqrt forward ⊗ sqrt strike) (negativeAbsLogMoneyness forward strike) time) ⌝ }
 {
     if time == 0.0 {
         if price == max(intrinsic, 0.0) {
@@ -307,7 +307,7 @@ pub fn input_outcome(
     time: f64,
     allowed: u64,
 ) -> Solved
-    ensures { λ r. ⌜ solved r ≡ afford allowed (inputOutcome side price forward strike time) ⌝ }
+    ensures { λ r. ⌜ solved r ≡ limited allowed (inputOutcome side price forward strike time) ⌝ }
 {
     let number = first_refusal(side, price, forward, strike, time);
     if number != 0 {

@@ -13,7 +13,7 @@ use lib.Ieee.Positive.{positive, positive-finite}
 use Rattle.arithmetic.specs.Operations.{_⊗_, two, maxFinite}
 use Rattle.arithmetic.specs.Basic.{over, min}
 use Rattle.inverse_gaussian.specs.declared.bracket.Bracket.{Bracket}
-use Rattle.inverse_gaussian.specs.Drive.{Next, go, stop, Loop, step, Ends}
+use Rattle.inverse_gaussian.specs.Loops.{Next, go, stop, Loop, step, Ends}
 use Rattle.inverse_gaussian.specs.Curves.{proper, inverseGaussianCdf, inverseGaussianSurvival}
 use Rattle.inverse_gaussian.specs.Bracket.{doubled, doubledFrom, widened, doubling, doublings}
 use Rattle.inverse_gaussian.specs.Survival.{cappedFrom, survivalWidened, survivalDoubling}

@@ -12,7 +12,7 @@ use lib.Ieee.Positive.{positive}
 use Rattle.arithmetic.specs.Operations.{_⊗_, half, minPositive}
 use Rattle.arithmetic.specs.Laws.Numbers.{lt-or-le}
 use Rattle.inverse_gaussian.specs.declared.bracket.Bracket.{Bracket}
-use Rattle.inverse_gaussian.specs.Drive.{Loop, step, Ends}
+use Rattle.inverse_gaussian.specs.Loops.{Loop, step, Ends}
 use Rattle.inverse_gaussian.specs.Curves.{proper, inverseGaussianCdf, inverseGaussianSurvival}
 use Rattle.inverse_gaussian.specs.Bracket.{halved, lowered, halving, halvings}
 use Rattle.inverse_gaussian.specs.Survival.{survivalLowered, survivalHalving}

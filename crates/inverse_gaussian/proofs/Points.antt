@@ -9,8 +9,8 @@ use lib.Ieee.Fits.{mul-fits}
 use Rattle.arithmetic.specs.Operations.{_⊗_}
 use Rattle.inverse_gaussian.specs.declared.curves.Point.{Point}
 use Rattle.inverse_gaussian.specs.declared.bracket.Bracket.{Bracket}
-use Rattle.inverse_gaussian.specs.Counted.{Option, Metered, afford, tick, atOnce}
-use Rattle.inverse_gaussian.specs.Drive.{Next}
+use Rattle.inverse_gaussian.specs.Counted.{Option, Metered, limited, tick, atOnce}
+use Rattle.inverse_gaussian.specs.Loops.{Next}
 use Rattle.inverse_gaussian.specs.Curves.{inverseGaussianCdf, inverseGaussianPdf, inverseGaussianSurvival}
 use Rattle.inverse_gaussian.specs.Points.{pointAt}
 use Rattle.inverse_gaussian.specs.Newton.{nrstep}
@@ -26,11 +26,11 @@ module _ (x mu : Float) (p : Point) (e : p ≡ pointAt x mu) where
   there : {A : Type 0} (f : Float → Float → A) (r : A) → r ≡ f (p .x) (p .mu) → r ≡ f x mu
   there f r h = subst (λ q. r ≡ f (q .x) (q .mu)) e h
 
-  pub cdf-at : (n : ℕ) (m : Metered Float) → m ≡ afford n (tick (atOnce (inverseGaussianCdf (p .x) (p .mu)))) → m ≡ afford n (tick (atOnce (inverseGaussianCdf x mu)))
-  cdf-at n m h = there (λ y nu. afford n (tick (atOnce (inverseGaussianCdf y nu)))) m h
+  pub cdf-at : (n : ℕ) (m : Metered Float) → m ≡ limited n (tick (atOnce (inverseGaussianCdf (p .x) (p .mu)))) → m ≡ limited n (tick (atOnce (inverseGaussianCdf x mu)))
+  cdf-at n m h = there (λ y nu. limited n (tick (atOnce (inverseGaussianCdf y nu)))) m h
 
-  pub survival-at : (n : ℕ) (m : Metered Float) → m ≡ afford n (tick (atOnce (inverseGaussianSurvival (p .x) (p .mu)))) → m ≡ afford n (tick (atOnce (inverseGaussianSurvival x mu)))
-  survival-at n m h = there (λ y nu. afford n (tick (atOnce (inverseGaussianSurvival y nu)))) m h
+  pub survival-at : (n : ℕ) (m : Metered Float) → m ≡ limited n (tick (atOnce (inverseGaussianSurvival (p .x) (p .mu)))) → m ≡ limited n (tick (atOnce (inverseGaussianSurvival x mu)))
+  survival-at n m h = there (λ y nu. limited n (tick (atOnce (inverseGaussianSurvival y nu)))) m h
 
   pub step-at : (d c q lq : Float) (r : Option Float) → d ≡ inverseGaussianPdf (p .x) (p .mu) → r ≡ nrstep (mu ⊗ d) c q lq → r ≡ nrstep (mu ⊗ inverseGaussianPdf x mu) c q lq
   step-at d c q lq r g h = h ∙ ap (λ z. nrstep (mu ⊗ z) c q lq) (there inverseGaussianPdf d g)

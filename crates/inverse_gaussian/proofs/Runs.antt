@@ -3,14 +3,14 @@
 use mathlib.Core.Path.{_≡_, refl}
 use lib.Ieee.{Float, nan, mul, lt, le, eq, ofBits}
 use Rattle.arithmetic.specs.Operations.{bits, maxFinite}
-use Rattle.inverse_gaussian.specs.Drive.{drive}
+use Rattle.inverse_gaussian.specs.Loops.{iterate}
 use Rattle.inverse_gaussian.specs.Bracket.{doubled, doubledFrom, widened, doublings, bracketQuantileFromBelow, halved, halvings}
 use Rattle.inverse_gaussian.specs.Survival.{survivalLowered, survivalFromAbove}
 
 most-doublings : (mu : Float) → bracketQuantileFromBelow (bits 1) mu nan .count ≡ 2098
-unfolding bracketQuantileFromBelow doublings drive doubledFrom widened doubled lt le eq mul ofBits
+unfolding bracketQuantileFromBelow doublings iterate doubledFrom widened doubled lt le eq mul ofBits
 most-doublings mu = refl
 
 most-halvings : (mu : Float) → survivalFromAbove maxFinite mu nan .count ≡ 2045
-unfolding survivalFromAbove halvings drive halved survivalLowered lt le eq mul ofBits
+unfolding survivalFromAbove halvings iterate halved survivalLowered lt le eq mul ofBits
 most-halvings mu = refl

@@ -5,7 +5,7 @@ use lib.Dec.{T}
 use lib.Ieee.{Float, binary64, fits, neg}
 use lib.Ieee.Bits.{is-true}
 use Rattle.special_function.specs.NormalDistribution.{inverseNormCdf}
-use Rattle.inverse_gaussian.specs.Drive.{go, Ends}
+use Rattle.inverse_gaussian.specs.Loops.{go, Ends}
 use Rattle.inverse_gaussian.specs.Curves.{proper, inverseGaussianQuantileInitialGuess, inverseGaussianQuantileInitialGuessFromZ, startingPoint}
 use Rattle.inverse_gaussian.specs.Bracket.{doubledFrom, doubling, doublings, halved, halving, halvings}
 use Rattle.inverse_gaussian.specs.Survival.{cappedFrom, survivalDoubling, survivalHalving}

@@ -8,7 +8,7 @@ use Rattle.arithmetic.specs.Exp.{exp}
 use Rattle.arithmetic.specs.Ln.{ln}
 use Rattle.inverse_gaussian.specs.declared.bracket.Bracket.{Bracket}
 use Rattle.inverse_gaussian.specs.Counted.{Counted}
-use Rattle.inverse_gaussian.specs.Drive.{Next, go, stop, Loop, drive}
+use Rattle.inverse_gaussian.specs.Loops.{Next, go, stop, Loop, iterate}
 use Rattle.inverse_gaussian.specs.Curves.{inverseGaussianCdf}
 
 -- QUANTILE_BRACKET_TOLERANCE, 32.0 * f64::EPSILON
@@ -39,7 +39,7 @@ doublings = 2098
 
 -- from the bracket above the starting point
 unfoldable pub bracketQuantileFromBelow : Float → Float → Float → Counted Bracket
-bracketQuantileFromBelow initial mu p = drive (doubling mu p) doublings (go (doubledFrom initial))
+bracketQuantileFromBelow initial mu p = iterate (doubling mu p) doublings (go (doubledFrom initial))
 
 -- ---- `bracket_quantile_from_above`
 
@@ -61,7 +61,7 @@ halvings = 2045
 
 -- from half of the starting point
 unfoldable pub bracketQuantileFromAbove : Float → Float → Float → Counted Bracket
-bracketQuantileFromAbove initial mu p = drive (halving mu p) halvings (halved initial initial)
+bracketQuantileFromAbove initial mu p = iterate (halving mu p) halvings (halved initial initial)
 
 -- ---- what both searches do with a bracket
 

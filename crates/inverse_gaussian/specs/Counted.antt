@@ -48,6 +48,6 @@ pay r (suc k) zero = spent
 pay r (suc k) (suc n) = pay r k n
 
 -- n allowed: the result, with n - count left, if the count is at most n
-unfoldable pub afford : {R : Type 0} → ℕ → Counted R → Metered R
+unfoldable pub limited : {R : Type 0} → ℕ → Counted R → Metered R
 unfolding pay
-afford n c = pay (c .result) (c .count) n
+limited n c = pay (c .result) (c .count) n

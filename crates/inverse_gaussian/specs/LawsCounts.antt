@@ -7,7 +7,7 @@ use Rattle.arithmetic.specs.Ln.{ln}
 use Rattle.special_function.specs.NormalDistribution.{inverseNormCdf}
 use Rattle.inverse_gaussian.specs.declared.bracket.Bracket.{Bracket}
 use Rattle.inverse_gaussian.specs.Counted.{Option, some, none, Counted, atOnce, someOf}
-use Rattle.inverse_gaussian.specs.Drive.{go}
+use Rattle.inverse_gaussian.specs.Loops.{go}
 use Rattle.inverse_gaussian.specs.Curves.{inverseGaussianCdf, inverseGaussianSurvival, inverseGaussianQuantileInitialGuess, inverseGaussianQuantileInitialGuessFromZ, startingPoint}
 use Rattle.inverse_gaussian.specs.Bracket.{doubling, doublings, doubledFrom, bracketQuantileFromBelow, halving, halvings, halved, bracketQuantileFromAbove}
 use Rattle.inverse_gaussian.specs.Newton.{newtoning, start, first, steps, inverseGaussianCdfStandardized, inverseGaussianNrstepStandardized, inverseGaussianQuantileActuar}

@@ -15,10 +15,10 @@ use Rattle.arithmetic.specs.Laws.ExpFits.{exp-fits}
 use Rattle.special_function.specs.NormalDistribution.{inverseNormCdf}
 use Rattle.inverse_gaussian.specs.declared.bracket.Bracket.{Bracket}
 use Rattle.inverse_gaussian.specs.Counted.{Option, some, none, Counted, atOnce}
-use Rattle.inverse_gaussian.specs.Drive.{Next, go, stop, Loop, step, drive}
+use Rattle.inverse_gaussian.specs.Loops.{Next, go, stop, Loop, step, iterate}
 use Rattle.inverse_gaussian.specs.Curves.{proper, inverseGaussianCdf, inverseGaussianQuantileInitialGuess, inverseGaussianQuantileInitialGuessFromZ, startingPoint}
 use Rattle.inverse_gaussian.specs.Bracket.{tolerance, doubled, doubledFrom, widened, doubling, doublings, bracketQuantileFromBelow, halved, lowered, halving, halvings, bracketQuantileFromAbove, bracketMidpoint, bracketIsTight, narrowed, inside, chosen}
-use Rattle.inverse_gaussian.specs.Newton.{settled, landed, first, later, newtoning, steps, start, inverseGaussianQuantileActuar}
+use Rattle.inverse_gaussian.specs.Newton.{converged, afterMove, first, later, newtoning, steps, start, inverseGaussianQuantileActuar}
 use Rattle.inverse_gaussian.specs.Quantile.{bracketAt, floor, raised, clamped, newtonStep, onward, moved, tightOr, round, rounding, rounds, inverseGaussianQuantileBracketed, solvable, filtered, orElse, inverseGaussianQuantile}
 use Rattle.inverse_gaussian.specs.Survival.{survivalNewton, survivalMoved, survivalTightOr, survivalRound, survivalRounding, survivalRounds, survivalRoundsIn, survivalSearch, inverseGaussianQuantileFromSurvival}
 
@@ -42,12 +42,12 @@ module _ {S R : Type 0} (I : S → Type 0) (J : R → Type 0) where
   pick true m n h g = h
   pick false m n h g = g
 
-  driven : (l : Loop S R) → ((s : S) → I s → J (l .out s)) → ((s : S) (v : Float) → I s → Keeps (l .advance s v)) → (k : ℕ) (n : Next S R) → Keeps n → J (drive l k n .result)
-  unfolding drive
-  driven l out on zero (go s) h = out s h
-  driven l out on zero (stop r) h = h
-  driven l out on (suc k) (go s) h = driven l out on k (step l s) (on s (l .ask (l .point s)) h)
-  driven l out on (suc k) (stop r) h = h
+  iterated : (l : Loop S R) → ((s : S) → I s → J (l .out s)) → ((s : S) (v : Float) → I s → Keeps (l .advance s v)) → (k : ℕ) (n : Next S R) → Keeps n → J (iterate l k n .result)
+  unfolding iterate
+  iterated l out on zero (go s) h = out s h
+  iterated l out on zero (stop r) h = h
+  iterated l out on (suc k) (go s) h = iterated l out on k (step l s) (on s (l .ask (l .point s)) h)
+  iterated l out on (suc k) (stop r) h = h
 
 abbrev Held : Float → Type 0
 Held x = T (fits binary64 x)
@@ -61,24 +61,24 @@ abbrev Both : Bracket → Type 0
 Both b = Held (b .lower) × Held (b .upper)
 
 -- ---- the Newton steps: every root is a product
-landed-held : (mu x dx d : Float) → Keeps (λ s. Unit) HeldIf (landed mu x dx d)
-unfolding landed
-landed-held mu x dx d = pick _ _ (proper x) _ _ (pick _ _ (settled dx x) _ _ (mul-fits binary64 x mu) tt) tt
+after-move-held : (mu x dx d : Float) → Keeps (λ s. Unit) HeldIf (afterMove mu x dx d)
+unfolding afterMove
+after-move-held mu x dx d = pick _ _ (proper x) _ _ (pick _ _ (converged dx x) _ _ (mul-fits binary64 x mu) tt) tt
 
 first-held : (mu x : Float) (t : Option Float) → Keeps (λ s. Unit) HeldIf (first mu x t)
 unfolding first
-first-held mu x (some dx) = landed-held mu (x ⊕ dx) dx (signum dx)
+first-held mu x (some dx) = after-move-held mu (x ⊕ dx) dx (signum dx)
 first-held mu x none = tt
 
 later-held : (mu x d : Float) (t : Option Float) → Keeps (λ s. Unit) HeldIf (later mu x d t)
 unfolding later
-later-held mu x d (some dx) = pick _ _ (lt (dx ⊗ d) nought) _ _ (mul-fits binary64 x mu) (landed-held mu (x ⊕ dx) dx d)
+later-held mu x d (some dx) = pick _ _ (lt (dx ⊗ d) nought) _ _ (mul-fits binary64 x mu) (after-move-held mu (x ⊕ dx) dx d)
 later-held mu x d none = tt
 
 newton-held : (p mu : Float) → HeldIf (inverseGaussianQuantileActuar p mu .result)
 unfolding inverseGaussianQuantileActuar steps
 newton-held p mu =
-    driven (λ s. Unit) HeldIf (newtoning p (ln p) mu) (λ s h. mul-fits binary64 (s .0) mu) (λ s v h. later-held mu (s .0) (s .1) _) 99 _ (first-held mu (start p (ln p) mu) _)
+    iterated (λ s. Unit) HeldIf (newtoning p (ln p) mu) (λ s h. mul-fits binary64 (s .0) mu) (λ s v h. later-held mu (s .0) (s .1) _) 99 _ (first-held mu (start p (ln p) mu) _)
 
 -- ---- the brackets
 always : (b : Bracket) → Both b → Both b
@@ -91,7 +91,7 @@ widened-both p b v h = pick _ _ (le p v || eq (b .upper) maxFinite) _ _ h (h .1,
 from-below-both : (x mu p : Float) → Held x → Both (bracketQuantileFromBelow x mu p .result)
 unfolding bracketQuantileFromBelow doubledFrom doubled
 from-below-both x mu p h =
-    driven Both Both (doubling mu p) always (widened-both p) doublings _ (h, cond-fits binary64 (isFinite (x ⊗ two)) _ _ (mul-fits binary64 _ _) (ofBits-fits binary64 _))
+    iterated Both Both (doubling mu p) always (widened-both p) doublings _ (h, cond-fits binary64 (isFinite (x ⊗ two)) _ _ (mul-fits binary64 _ _) (ofBits-fits binary64 _))
 
 halved-both : (x u : Float) → Held u → Keeps Both Both (halved x u)
 unfolding halved
@@ -103,7 +103,7 @@ lowered-both p b v h = pick _ _ (le v p) _ _ h (halved-both (b .lower) (b .lower
 
 from-above-both : (x mu p : Float) → Held x → Both (bracketQuantileFromAbove x mu p .result)
 unfolding bracketQuantileFromAbove
-from-above-both x mu p h = driven Both Both (halving mu p) always (lowered-both p) halvings (halved x x) (halved-both x x h)
+from-above-both x mu p h = iterated Both Both (halving mu p) always (lowered-both p) halvings (halved x x) (halved-both x x h)
 
 -- ---- the rounds: a state's point is held, and what is made of it
 abbrev At : Bracket × Float → Type 0
@@ -135,7 +135,7 @@ round-held mu p s v h =
 
 rounds-held : (mu p : Float) (b : Bracket) (x : Float) → Held x → Held (rounds mu p b x .result)
 unfolding rounds
-rounds-held mu p b x h = driven At Held (rounding mu p) (λ s q. midpoint-held (s .0)) (round-held mu p) 64 (go (b, x)) h
+rounds-held mu p b x h = iterated At Held (rounding mu p) (λ s q. midpoint-held (s .0)) (round-held mu p) 64 (go (b, x)) h
 
 survival-moved-held : (b : Bracket) (x : Float) (t : Option Float) → Keeps At Held (survivalMoved b x t)
 unfolding survivalMoved
@@ -151,7 +151,7 @@ survival-round-held mu p s v h =
 
 survival-rounds-held : (mu p : Float) (b : Bracket) (x : Float) → Held x → Held (survivalRounds mu p b x .result)
 unfolding survivalRounds
-survival-rounds-held mu p b x h = driven At Held (survivalRounding mu p) (λ s q. midpoint-held (s .0)) (survival-round-held mu p) 64 (go (b, x)) h
+survival-rounds-held mu p b x h = iterated At Held (survivalRounding mu p) (λ s q. midpoint-held (s .0)) (survival-round-held mu p) 64 (go (b, x)) h
 
 -- ---- where they start
 pub guess-held : (z mu : Float) → T (fits binary64 mu) → T (fits binary64 (startingPoint (inverseGaussianQuantileInitialGuessFromZ z mu) mu))

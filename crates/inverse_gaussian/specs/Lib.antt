@@ -1,6 +1,6 @@
--- Definitions: counted results and driven loops, then the searches in the order of the source's file; and laws about them.
+-- Definitions: counted results and loops, then the searches in the order of the source's file; and laws about them.
 pub mod Counted
-pub mod Drive
+pub mod Loops
 pub mod Curves
 pub mod Points
 pub mod Bracket

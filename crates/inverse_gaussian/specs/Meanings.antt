@@ -22,7 +22,7 @@ use Rattle.inverse_gaussian.specs.declared.quantile.Rounded.the-variants
 use Rattle.inverse_gaussian.specs.declared.survival.Doubling.{Doubling}
 use Rattle.inverse_gaussian.specs.declared.survival.Doubling.the-variants.{Reached as Enough, Wider as More, Beyond}
 use Rattle.inverse_gaussian.specs.Counted.{Option, some, none, Metered, have, spent}
-use Rattle.inverse_gaussian.specs.Drive.{Next, go, stop}
+use Rattle.inverse_gaussian.specs.Loops.{Next, go, stop}
 
 -- ---- with how many evaluations are left
 

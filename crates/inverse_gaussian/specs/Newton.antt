@@ -8,7 +8,7 @@ use Rattle.arithmetic.specs.Exp.{exp}
 use Rattle.arithmetic.specs.Ln.{ln, ln1p}
 use Rattle.special_function.specs.NormalDistribution.{inverseNormCdf}
 use Rattle.inverse_gaussian.specs.Counted.{Option, some, none, Counted, tick}
-use Rattle.inverse_gaussian.specs.Drive.{Next, go, stop, Loop, drive}
+use Rattle.inverse_gaussian.specs.Loops.{Next, go, stop, Loop, iterate}
 use Rattle.inverse_gaussian.specs.Curves.{proper, inverseGaussianCdf, inverseGaussianPdf, inverseGaussianQuantileInitialGuess}
 
 -- `inverse_gaussian_mode_standardized`
@@ -60,22 +60,22 @@ start probability logProbability mu =
     cond (proper x) x (max (inverseGaussianModeStandardized mu) minPositive)
 
 -- ACTUAR_RELATIVE_QUANTILE_TOLERANCE, 1.0e-14
-unfoldable pub settled : Float → Float → Bool
-settled dx x = le (abs dx ⊘ x) (bits 0x3D06_849B_86A1_2B9B)
+unfoldable pub converged : Float → Float → Bool
+converged dx x = le (abs dx ⊘ x) (bits 0x3D06_849B_86A1_2B9B)
 
 -- Where the steps stand: x, and the direction of the first move. After a move dx to x the search fails where x is not finite and above 0,
 -- and has its root where the move was small.
-unfoldable pub landed : Float → Float → Float → Float → Next (Float × Float) (Option Float)
-landed mu x dx direction = cond (proper x) (cond (settled dx x) (stop (some (x ⊗ mu))) (go (x, direction))) (stop none)
+unfoldable pub afterMove : Float → Float → Float → Float → Next (Float × Float) (Option Float)
+afterMove mu x dx direction = cond (proper x) (cond (converged dx x) (stop (some (x ⊗ mu))) (go (x, direction))) (stop none)
 
 -- after the first step, from x
 unfoldable pub first : Float → Float → Option Float → Next (Float × Float) (Option Float)
-first mu x (some dx) = landed mu (x ⊕ dx) dx (signum dx)
+first mu x (some dx) = afterMove mu (x ⊕ dx) dx (signum dx)
 first mu x none = stop none
 
 -- a move against the first direction ends the search
 unfoldable pub later : Float → Float → Float → Option Float → Next (Float × Float) (Option Float)
-later mu x direction (some dx) = cond (lt (dx ⊗ direction) nought) (stop (some (x ⊗ mu))) (landed mu (x ⊕ dx) dx direction)
+later mu x direction (some dx) = cond (lt (dx ⊗ direction) nought) (stop (some (x ⊗ mu))) (afterMove mu (x ⊕ dx) dx direction)
 later mu x direction none = stop none
 
 -- the loop of the steps after the first
@@ -94,7 +94,7 @@ last mu (go s) = some (s .0 ⊗ mu)
 
 -- ACTUAR_MAX_QUANTILE_ITERATIONS is 100: the first step and 99 more
 unfoldable pub steps : Float → Float → Float → Next (Float × Float) (Option Float) → Counted (Option Float)
-steps probability logProbability mu n = drive (newtoning probability logProbability mu) 99 n
+steps probability logProbability mu n = iterate (newtoning probability logProbability mu) 99 n
 
 -- `inverse_gaussian_quantile_actuar`
 unfoldable pub inverseGaussianQuantileActuar : Float → Float → Counted (Option Float)

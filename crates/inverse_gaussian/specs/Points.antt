@@ -9,4 +9,4 @@ use Rattle.inverse_gaussian.specs.declared.curves.Point.{Point}
 abbrev pub pointAt : Float → Float → Point
 pointAt x mu =
     let a = sqrt x ⊘ mu ⊖ recip (sqrt x) in
-    record { x = x; mu = mu; root = sqrt x; leading = sqrt x ⊘ mu; inverse = recip (sqrt x); a = a; exponential = exp (neg half ⊗ a ⊗ a) }
+    record { x = x; mu = mu; «sqrt_x» = sqrt x; leading = sqrt x ⊘ mu; «inv_sqrt_x» = recip (sqrt x); a = a; exponential = exp (neg half ⊗ a ⊗ a) }

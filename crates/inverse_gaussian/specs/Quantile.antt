@@ -5,7 +5,7 @@ use Rattle.arithmetic.specs.Operations.{_⊖_, _⊗_, _⊘_, nought, one, minPo
 use Rattle.arithmetic.specs.Basic.{abs, max}
 use Rattle.inverse_gaussian.specs.declared.bracket.Bracket.{Bracket}
 use Rattle.inverse_gaussian.specs.Counted.{Option, some, none, Counted, atOnce, tick, then, someOf}
-use Rattle.inverse_gaussian.specs.Drive.{Next, go, stop, Loop, drive}
+use Rattle.inverse_gaussian.specs.Loops.{Next, go, stop, Loop, iterate}
 use Rattle.inverse_gaussian.specs.Curves.{proper, inverseGaussianCdf, inverseGaussianPdf, inverseGaussianQuantileInitialGuess, startingPoint}
 use Rattle.inverse_gaussian.specs.Bracket.{tolerance, bracketMidpoint, bracketIsTight, bracketQuantileFromBelow, bracketQuantileFromAbove, narrowed, chosen}
 use Rattle.inverse_gaussian.specs.Newton.{inverseGaussianQuantileActuar}
@@ -57,7 +57,7 @@ rounding mu p = record { ask = λ x. inverseGaussianCdf x mu; point = λ s. s .1
 
 -- MAX_QUANTILE_ITERATIONS is 64
 unfoldable pub rounds : Float → Float → Bracket → Float → Counted Float
-rounds mu p b x = drive (rounding mu p) 64 (go (b, x))
+rounds mu p b x = iterate (rounding mu p) 64 (go (b, x))
 
 -- one evaluation at the starting point, the bracket, the rounds
 unfoldable pub inverseGaussianQuantileBracketed : Float → Float → Counted Float

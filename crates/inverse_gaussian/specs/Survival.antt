@@ -7,7 +7,7 @@ use Rattle.arithmetic.specs.Ln.{ln}
 use Rattle.special_function.specs.NormalDistribution.{inverseNormCdf}
 use Rattle.inverse_gaussian.specs.declared.bracket.Bracket.{Bracket}
 use Rattle.inverse_gaussian.specs.Counted.{Option, some, none, Counted, atOnce, tick, then, someOf}
-use Rattle.inverse_gaussian.specs.Drive.{Next, go, stop, Loop, drive}
+use Rattle.inverse_gaussian.specs.Loops.{Next, go, stop, Loop, iterate}
 use Rattle.inverse_gaussian.specs.Curves.{proper, inverseGaussianSurvival, inverseGaussianPdf, inverseGaussianQuantileInitialGuessFromZ, startingPoint}
 use Rattle.inverse_gaussian.specs.Bracket.{tolerance, doublings, halved, halvings, bracketMidpoint, bracketIsTight, narrowed, chosen}
 use Rattle.inverse_gaussian.specs.Quantile.{solvable}
@@ -28,7 +28,7 @@ survivalDoubling mu p = record { ask = λ x. inverseGaussianSurvival x mu; point
 
 -- from the bracket above the starting point
 unfoldable pub survivalFromBelow : Float → Float → Float → Counted (Option Bracket)
-survivalFromBelow initial mu p = drive (survivalDoubling mu p) doublings (go (cappedFrom initial))
+survivalFromBelow initial mu p = iterate (survivalDoubling mu p) doublings (go (cappedFrom initial))
 
 -- ---- the halving
 
@@ -42,7 +42,7 @@ survivalHalving mu p = record { ask = λ x. inverseGaussianSurvival x mu; point 
 
 -- from half of the starting point
 unfoldable pub survivalFromAbove : Float → Float → Float → Counted Bracket
-survivalFromAbove initial mu p = drive (survivalHalving mu p) halvings (halved initial initial)
+survivalFromAbove initial mu p = iterate (survivalHalving mu p) halvings (halved initial initial)
 
 -- the bracket on the side that the value v at x points to
 unfoldable pub survivalBracketAt : Float → Float → Float → Float → Counted (Option Bracket)
@@ -83,7 +83,7 @@ survivalRounding mu p = record { ask = λ x. inverseGaussianSurvival x mu; point
 
 -- MAX_QUANTILE_ITERATIONS is 64
 unfoldable pub survivalRounds : Float → Float → Bracket → Float → Counted Float
-survivalRounds mu p b x = drive (survivalRounding mu p) 64 (go (b, x))
+survivalRounds mu p b x = iterate (survivalRounding mu p) 64 (go (b, x))
 
 -- ---- the whole: one evaluation at the guess, the bracket, the rounds
 

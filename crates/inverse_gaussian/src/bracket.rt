@@ -9,7 +9,7 @@ use special_function::constants::MAX;
 use special_function::constants::MIN_POSITIVE;
 ghost use mathlib.Core.Path.{_≡_};
 ghost use mathlib.Core.Bool.{true};
-ghost use Rattle.inverse_gaussian.specs.Counted.{afford};
+ghost use Rattle.inverse_gaussian.specs.Counted.{limited};
 ghost use Rattle.inverse_gaussian.specs.Meanings.{bracketed, widening};
 ghost use Rattle.inverse_gaussian.specs.Curves.{proper};
 ghost use Rattle.inverse_gaussian.specs.Bracket.{bracketMidpoint, bracketIsTight, doubled, doubledFrom, widened, bracketQuantileFromBelow, halved, lowered, bracketQuantileFromAbove, narrowed, inside, chosen};
@@ -139,7 +139,7 @@ pub(crate) fn bracket_quantile_from_below(
     allowed: u64,
 ) -> Bracketed
     requires { ⌜ proper initial ≡ true ⌝ }
-    ensures { λ r. ⌜ bracketed r ≡ afford allowed (bracketQuantileFromBelow initial mu probability) ⌝ }
+    ensures { λ r. ⌜ bracketed r ≡ limited allowed (bracketQuantileFromBelow initial mu probability) ⌝ }
 {
     let mut bracket = Bracket::doubled_from(initial);
     let mut left = allowed;
@@ -164,7 +164,7 @@ pub(crate) fn bracket_quantile_from_above(
     allowed: u64,
 ) -> Bracketed
     requires { ⌜ proper initial ≡ true ⌝ }
-    ensures { λ r. ⌜ bracketed r ≡ afford allowed (bracketQuantileFromAbove initial mu probability) ⌝ }
+    ensures { λ r. ⌜ bracketed r ≡ limited allowed (bracketQuantileFromAbove initial mu probability) ⌝ }
 {
     let mut trial = Bracket::halved(initial, initial);
     let mut left = allowed;

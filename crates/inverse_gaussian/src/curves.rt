@@ -15,7 +15,7 @@ ghost use mathlib.Core.Path.{_≡_};
 ghost use lib.Ieee.{neg};
 ghost use Rattle.arithmetic.specs.Operations.{_⊗_, half};
 ghost use Rattle.arithmetic.specs.Exp.{exp};
-ghost use Rattle.inverse_gaussian.specs.Counted.{afford, tick, atOnce};
+ghost use Rattle.inverse_gaussian.specs.Counted.{limited, tick, atOnce};
 ghost use Rattle.inverse_gaussian.specs.Meanings.{evaluated};
 ghost use Rattle.inverse_gaussian.specs.Points.{pointAt};
 ghost use Rattle.inverse_gaussian.specs.Curves.{proper, inverseGaussianSurvival, inverseGaussianQuantileInitialGuess, inverseGaussianQuantileInitialGuessFromZ, startingPoint, inverseGaussianCdf, inverseGaussianPdf};
@@ -31,9 +31,9 @@ pub fn is_proper(x: f64) -> bool
 pub struct Point {
     pub x: f64,
     pub mu: f64,
-    pub root: f64,
+    pub sqrt_x: f64,
     pub leading: f64,
-    pub inverse: f64,
+    pub inv_sqrt_x: f64,
     pub a: f64,
     pub exponential: f64,
 }
@@ -42,16 +42,16 @@ impl Point {
     pub fn at(x: f64, mu: f64) -> Point
         ensures { λ r. ⌜ r ≡ pointAt x mu ⌝ }
     {
-        let root = sqrt(x);
-        let leading = root / mu;
-        let inverse = recip(root);
-        let a = leading - inverse;
+        let sqrt_x = sqrt(x);
+        let leading = sqrt_x / mu;
+        let inv_sqrt_x = recip(sqrt_x);
+        let a = leading - inv_sqrt_x;
         Point {
             x,
             mu,
-            root,
+            sqrt_x,
             leading,
-            inverse,
+            inv_sqrt_x,
             a,
             exponential: exp(-0.5 * a * a),
         }
@@ -60,26 +60,26 @@ impl Point {
     // An evaluation.
     pub(crate) fn survival(self, allowed: u64) -> Evaluation
         requires { ⌜ self ≡ pointAt (self .x) (self .mu) ⌝ }
-        ensures { λ r. ⌜ evaluated r ≡ afford allowed (tick (atOnce (inverseGaussianSurvival (self .x) (self .mu)))) ⌝ }
+        ensures { λ r. ⌜ evaluated r ≡ limited allowed (tick (atOnce (inverseGaussianSurvival (self .x) (self .mu)))) ⌝ }
     {
         if allowed == 0 {
             return Evaluation::Spent;
         }
         let exponent = -recip(self.mu);
         // the Black price at these figures is the survival probability times exp(-1 / mu)
-        let black = normalised_black(exponent, -self.leading, self.inverse);
+        let black = normalised_black(exponent, -self.leading, self.inv_sqrt_x);
         Evaluation::Value(black / exp(exponent), allowed - 1)
     }
 
     // An evaluation.
     pub(crate) fn cdf(self, allowed: u64) -> Evaluation
         requires { ⌜ self ≡ pointAt (self .x) (self .mu) ⌝ }
-        ensures { λ r. ⌜ evaluated r ≡ afford allowed (tick (atOnce (inverseGaussianCdf (self .x) (self .mu)))) ⌝ }
+        ensures { λ r. ⌜ evaluated r ≡ limited allowed (tick (atOnce (inverseGaussianCdf (self .x) (self .mu)))) ⌝ }
     {
         if allowed == 0 {
             return Evaluation::Spent;
         }
-        let reflected = self.leading + self.inverse;
+        let reflected = self.leading + self.inv_sqrt_x;
         let value = norm_cdf(self.a)
             + 0.5 * self.exponential * erfcx_cody(reflected * FRAC_1_SQRT_2);
         Evaluation::Value(value, allowed - 1)
@@ -104,13 +104,13 @@ impl Point {
         requires { ⌜ self ≡ pointAt (self .x) (self .mu) ⌝ }
         ensures { λ r. ⌜ r ≡ inverseGaussianPdf (self .x) (self .mu) ⌝ }
     {
-        FRAC_SQRT_2_PI * self.exponential_of_square() / (self.x * self.root)
+        FRAC_SQRT_2_PI * self.exponential_of_square() / (self.x * self.sqrt_x)
     }
 }
 
 // An evaluation.
 pub fn inverse_gaussian_survival(x: f64, mu: f64, allowed: u64) -> Evaluation
-    ensures { λ r. ⌜ evaluated r ≡ afford allowed (tick (atOnce (inverseGaussianSurvival x mu))) ⌝ }
+    ensures { λ r. ⌜ evaluated r ≡ limited allowed (tick (atOnce (inverseGaussianSurvival x mu))) ⌝ }
 {
     Point::at(x, mu).survival(allowed)
 }
@@ -143,7 +143,7 @@ pub fn starting_point(guess: f64, mu: f64) -> f64
 
 // An evaluation.
 pub fn inverse_gaussian_cdf(x: f64, mu: f64, allowed: u64) -> Evaluation
-    ensures { λ r. ⌜ evaluated r ≡ afford allowed (tick (atOnce (inverseGaussianCdf x mu))) ⌝ }
+    ensures { λ r. ⌜ evaluated r ≡ limited allowed (tick (atOnce (inverseGaussianCdf x mu))) ⌝ }
 {
     Point::at(x, mu).cdf(allowed)
 }

@@ -15,9 +15,9 @@ use arithmetic::sqrt::sqrt;
 use special_function::constants::MIN_POSITIVE;
 use special_function::normal_distribution::inverse_norm_cdf;
 ghost use mathlib.Core.Path.{_≡_};
-ghost use Rattle.inverse_gaussian.specs.Counted.{afford, have};
+ghost use Rattle.inverse_gaussian.specs.Counted.{limited, have};
 ghost use Rattle.inverse_gaussian.specs.Meanings.{newton, stepped, quantile};
-ghost use Rattle.inverse_gaussian.specs.Newton.{seed, start, steps, inverseGaussianQuantileActuar, inverseGaussianModeStandardized, numerator, nrstep, settled, landed, first, later, last};
+ghost use Rattle.inverse_gaussian.specs.Newton.{seed, start, steps, inverseGaussianQuantileActuar, inverseGaussianModeStandardized, numerator, nrstep, converged, afterMove, first, later, last};
 
 const ACTUAR_RELATIVE_QUANTILE_TOLERANCE: f64 = 1.0e-14;
 
@@ -70,17 +70,17 @@ fn start(probability: f64, log_probability: f64, mu: f64) -> f64
 }
 
 // A relative tolerance: an absolute one would accept a first step far from a small root.
-fn is_settled(dx: f64, x: f64) -> bool
-    ensures { λ r. ⌜ r ≡ settled dx x ⌝ }
+fn is_converged(dx: f64, x: f64) -> bool
+    ensures { λ r. ⌜ r ≡ converged dx x ⌝ }
 {
     abs(dx) / x <= ACTUAR_RELATIVE_QUANTILE_TOLERANCE
 }
 
-fn landed(x: f64, dx: f64, direction: f64, mu: f64) -> Stepped
-    ensures { λ r. ⌜ stepped r ≡ landed mu x dx direction ⌝ }
+fn after_move(x: f64, dx: f64, direction: f64, mu: f64) -> Stepped
+    ensures { λ r. ⌜ stepped r ≡ afterMove mu x dx direction ⌝ }
 {
     if is_proper(x) {
-        if is_settled(dx, x) {
+        if is_converged(dx, x) {
             return Stepped::Root(x * mu);
         }
         return Stepped::Again(x, direction);
@@ -94,7 +94,7 @@ impl Newton {
         ensures { λ r. ⌜ stepped r ≡ first mu x (newton self) ⌝ }
     {
         match self {
-            Newton::Move(dx) => landed(x + dx, dx, signum(dx), mu),
+            Newton::Move(dx) => after_move(x + dx, dx, signum(dx), mu),
             Newton::Refused => Stepped::None,
         }
     }
@@ -108,7 +108,7 @@ impl Newton {
                 if dx * direction < 0.0 {
                     return Stepped::Root(x * mu);
                 }
-                landed(x + dx, dx, direction, mu)
+                after_move(x + dx, dx, direction, mu)
             }
             Newton::Refused => Stepped::None,
         }
@@ -130,7 +130,7 @@ impl Stepped {
 
 // The steps after the first.
 fn steps(begin: Stepped, probability: f64, log_probability: f64, mu: f64, allowed: u64) -> Quantile
-    ensures { λ r. ⌜ quantile r ≡ afford allowed (steps probability «log_probability» mu (stepped begin)) ⌝ }
+    ensures { λ r. ⌜ quantile r ≡ limited allowed (steps probability «log_probability» mu (stepped begin)) ⌝ }
 {
     let mut left = allowed;
     let mut next = begin;
@@ -160,7 +160,7 @@ fn steps(begin: Stepped, probability: f64, log_probability: f64, mu: f64, allowe
 }
 
 pub fn inverse_gaussian_quantile_actuar(probability: f64, mu: f64, allowed: u64) -> Quantile
-    ensures { λ r. ⌜ quantile r ≡ afford allowed (inverseGaussianQuantileActuar probability mu) ⌝ }
+    ensures { λ r. ⌜ quantile r ≡ limited allowed (inverseGaussianQuantileActuar probability mu) ⌝ }
 {
     let log_probability = ln(probability);
     let x = start(probability, log_probability, mu);

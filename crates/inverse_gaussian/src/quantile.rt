@@ -21,7 +21,7 @@ use arithmetic::basic::max;
 use special_function::constants::MIN_POSITIVE;
 ghost use mathlib.Core.Path.{_≡_};
 ghost use mathlib.Core.Bool.{true};
-ghost use Rattle.inverse_gaussian.specs.Counted.{afford, mapped};
+ghost use Rattle.inverse_gaussian.specs.Counted.{limited, mapped};
 ghost use Rattle.inverse_gaussian.specs.Curves.{proper};
 ghost use Rattle.inverse_gaussian.specs.Meanings.{bracketed, rooted, quantile, newton, rounded};
 ghost use Rattle.inverse_gaussian.specs.Points.{pointAt};
@@ -67,7 +67,7 @@ impl Quantile {
 }
 
 pub fn inverse_gaussian_quantile(probability: f64, mu: f64, allowed: u64) -> Quantile
-    ensures { λ r. ⌜ quantile r ≡ afford allowed (inverseGaussianQuantile probability mu) ⌝ }
+    ensures { λ r. ⌜ quantile r ≡ limited allowed (inverseGaussianQuantile probability mu) ⌝ }
 {
     if !is_solvable(probability, mu) {
         return Quantile::None(allowed);
@@ -85,7 +85,7 @@ pub fn inverse_gaussian_quantile(probability: f64, mu: f64, allowed: u64) -> Qua
 // The bracket on the side that the value at x points to.
 fn bracket_at(x: f64, cdf: f64, mu: f64, probability: f64, allowed: u64) -> Bracketed
     requires { ⌜ proper x ≡ true ⌝ }
-    ensures { λ r. ⌜ bracketed r ≡ afford allowed (bracketAt x cdf mu probability) ⌝ }
+    ensures { λ r. ⌜ bracketed r ≡ limited allowed (bracketAt x cdf mu probability) ⌝ }
 {
     if cdf < probability {
         bracket_quantile_from_below(x, mu, probability, allowed)
@@ -181,7 +181,7 @@ impl Bracket {
 }
 
 fn rounds(start: Bracket, guess: f64, mu: f64, probability: f64, allowed: u64) -> Rooted
-    ensures { λ r. ⌜ rooted r ≡ afford allowed (rounds mu probability start guess) ⌝ }
+    ensures { λ r. ⌜ rooted r ≡ limited allowed (rounds mu probability start guess) ⌝ }
 {
     let mut bracket = start;
     let mut x = guess;
@@ -207,7 +207,7 @@ fn rounds(start: Bracket, guess: f64, mu: f64, probability: f64, allowed: u64) -
 
 pub(crate) fn inverse_gaussian_quantile_bracketed(probability: f64, mu: f64, allowed: u64) -> Rooted
     requires { ⌜ proper mu ≡ true ⌝ }
-    ensures { λ r. ⌜ rooted r ≡ afford allowed (inverseGaussianQuantileBracketed probability mu) ⌝ }
+    ensures { λ r. ⌜ rooted r ≡ limited allowed (inverseGaussianQuantileBracketed probability mu) ⌝ }
 {
     let x = starting_point(inverse_gaussian_quantile_initial_guess(probability, mu), mu);
     let Evaluation::Value(cdf, left) = inverse_gaussian_cdf(x, mu, allowed) else {

@@ -24,7 +24,7 @@ use special_function::constants::MAX;
 use special_function::normal_distribution::inverse_norm_cdf;
 ghost use mathlib.Core.Path.{_≡_};
 ghost use mathlib.Core.Bool.{true};
-ghost use Rattle.inverse_gaussian.specs.Counted.{afford};
+ghost use Rattle.inverse_gaussian.specs.Counted.{limited};
 ghost use Rattle.inverse_gaussian.specs.Curves.{proper};
 ghost use Rattle.inverse_gaussian.specs.Meanings.{bracketed, reached, rooted, quantile, newton, rounded, widening, doubling};
 ghost use Rattle.inverse_gaussian.specs.Points.{pointAt};
@@ -108,7 +108,7 @@ impl Bracket {
 
 fn from_below(initial: f64, mu: f64, probability: f64, allowed: u64) -> Reach
     requires { ⌜ proper initial ≡ true ⌝ }
-    ensures { λ r. ⌜ reached r ≡ afford allowed (survivalFromBelow initial mu probability) ⌝ }
+    ensures { λ r. ⌜ reached r ≡ limited allowed (survivalFromBelow initial mu probability) ⌝ }
 {
     let mut bracket = Bracket::capped_from(initial);
     let mut left = allowed;
@@ -129,7 +129,7 @@ fn from_below(initial: f64, mu: f64, probability: f64, allowed: u64) -> Reach
 
 fn from_above(initial: f64, mu: f64, probability: f64, allowed: u64) -> Bracketed
     requires { ⌜ proper initial ≡ true ⌝ }
-    ensures { λ r. ⌜ bracketed r ≡ afford allowed (survivalFromAbove initial mu probability) ⌝ }
+    ensures { λ r. ⌜ bracketed r ≡ limited allowed (survivalFromAbove initial mu probability) ⌝ }
 {
     let mut trial = Bracket::halved(initial, initial);
     let mut left = allowed;
@@ -150,7 +150,7 @@ fn from_above(initial: f64, mu: f64, probability: f64, allowed: u64) -> Brackete
 // The bracket on the side that the value at x points to.
 fn survival_bracket_at(x: f64, survival: f64, mu: f64, probability: f64, allowed: u64) -> Reach
     requires { ⌜ proper x ≡ true ⌝ }
-    ensures { λ r. ⌜ reached r ≡ afford allowed (survivalBracketAt x survival mu probability) ⌝ }
+    ensures { λ r. ⌜ reached r ≡ limited allowed (survivalBracketAt x survival mu probability) ⌝ }
 {
     if survival > probability {
         from_below(x, mu, probability, allowed)
@@ -192,7 +192,7 @@ fn survival_newton(point: Point, survival: f64, probability: f64) -> Newton
 }
 
 fn survival_rounds(start: Bracket, guess: f64, mu: f64, probability: f64, allowed: u64) -> Rooted
-    ensures { λ r. ⌜ rooted r ≡ afford allowed (survivalRounds mu probability start guess) ⌝ }
+    ensures { λ r. ⌜ rooted r ≡ limited allowed (survivalRounds mu probability start guess) ⌝ }
 {
     let mut bracket = start;
     let mut x = guess;
@@ -217,7 +217,7 @@ fn survival_rounds(start: Bracket, guess: f64, mu: f64, probability: f64, allowe
 }
 
 pub fn inverse_gaussian_quantile_from_survival(probability: f64, mu: f64, allowed: u64) -> Quantile
-    ensures { λ r. ⌜ quantile r ≡ afford allowed (inverseGaussianQuantileFromSurvival probability mu) ⌝ }
+    ensures { λ r. ⌜ quantile r ≡ limited allowed (inverseGaussianQuantileFromSurvival probability mu) ⌝ }
 {
     if !is_solvable(probability, mu) {
         return Quantile::None(allowed);

@@ -6,7 +6,7 @@ use lib.Ieee.{Float, nan, inf, fin, binary64, up, down, lt, isNan, toSigned, fit
 use lib.Ieee.Fits.{cond-fits, nan-fits, inf-fits, round-fits}
 use lib.Ieee.Bits.{ofBits-fits}
 use Rattle.arithmetic.specs.Basic.{minus?, trunc}
-use Rattle.arithmetic.specs.Exp.{highest, lowest, beyond, reduced, scaled, exp}
+use Rattle.arithmetic.specs.Exp.{highest, lowest, halfAway, reduced, scaled, exp}
 
 scaled-fits : (y : Float) (k : ℤ) → T (fits binary64 (scaled y k))
 unfolding scaled
@@ -17,7 +17,7 @@ scaled-fits (fin s m e) k = round-fits binary64 s (m * up e * up k) (down e * do
 pub exp-fits : (x : Float) → T (fits binary64 (exp x))
 unfolding exp
 exp-fits x =
-    let k = trunc (beyond (minus? x) x) in
+    let k = trunc (halfAway (minus? x) x) in
     cond-fits binary64 (isNan x) _ _ (nan-fits binary64)
     (cond-fits binary64 (lt highest x) _ _ (ofBits-fits binary64 0x7FF0_0000_0000_0000)
     (cond-fits binary64 (lt x lowest) _ _ (ofBits-fits binary64 0)

@@ -1,12 +1,12 @@
 -- One evaluation is allowed, so its value is there. Assumes nothing.
 use mathlib.Core.Path.{ap, _∙_}
-use Rattle.inverse_gaussian.specs.Counted.{afford}
+use Rattle.inverse_gaussian.specs.Counted.{limited}
 use Rattle.exports.specs.Handed.{valueOf}
 use Rattle.exports.proofs.quoter_inverse_gaussian_survival.Statement.{statement}
 use Rattle.exports.proofs.quoter_inverse_gaussian_survival.Tie as tie
 
 returns : tie.Need-returns
-unfolding afford
+unfolding limited
 returns c = c .value .ensures ∙ ap valueOf (c .before .inverse-gaussian-survival .ensures)
 
 pub quoter-inverse-gaussian-survival-spec : {M : Type 1} → statement M

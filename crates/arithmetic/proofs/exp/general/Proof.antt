@@ -31,13 +31,13 @@ negative c = leb (2 ^ 63) (toBits binary64 (arg c))
 sign : (c : tie.Else3) → negative c ≡ minus? (arg c)
 sign c = sym (sign-bit (arg c) (held (c .before .before .before)) (number (c .before .before)))
 
-facts : (c : tie.After-beyond) → Known (negative (c .before)) (c .beyond .result)
+facts : (c : tie.After-half-away) → Known (negative (c .before)) (c .half-away .result)
 facts c =
     let d = c .before in
-    known (arg d) (number (d .before .before)) (d .before .if2 .left) (d .if3 .left) (negative d) (c .beyond .result) (sign d) (c .beyond .ensures)
+    known (arg d) (number (d .before .before)) (d .before .if2 .left) (d .if3 .left) (negative d) (c .half-away .result) (sign d) (c .half-away .ensures)
 
 bound : (c : tie.After-whole-part) → c .whole-part .result ≤ most (negative (c .before .before))
-bound c = part-le (negative (c .before .before)) (c .before .beyond .result) (c .whole-part .result) (facts (c .before)) (c .whole-part .ensures)
+bound c = part-le (negative (c .before .before)) (c .before .half-away .result) (c .whole-part .result) (facts (c .before)) (c .whole-part .ensures)
 
 few : (c : tie.After-whole-part) → c .whole-part .result ≤ 1075
 few c = le-trans (bound c) (most-le (negative (c .before .before)))
@@ -59,7 +59,7 @@ float-to-bits-negative : tie.Need-float-to-bits-negative
 float-to-bits-negative c = has-bits (arg c) (c .before .before .if1 .left)
 
 whole-part-requires : tie.Need-whole-part-requires
-whole-part-requires c κs = false-not (isNan (c .beyond .result)) (finite-no-nan (c .beyond .result) (facts c .is-finite))
+whole-part-requires c κs = false-not (isNan (c .half-away .result)) (finite-no-nan (c .half-away .result) (facts c .is-finite))
 
 signed-requires : tie.Need-signed-requires
 signed-requires c κs = le-trans (few c) (lit≤ tt)
@@ -80,7 +80,7 @@ returns-4 c =
     c .scale .ensures
     ∙ ap (λ (y : Float). scaled y (minus (c .before .exponent .result) 1075)) (c .before .before .reduced .ensures ∙ ap (reduced (arg d)) (c .before .before .before .signed .ensures))
     ∙ ap (λ (e : ℕ). scaled (reduced (arg d) (round binary64 (negative d) n 1)) (minus e 1075)) (c .before .exponent .ensures)
-    ∙ exp-is (arg d) (number (d .before .before)) (d .before .if2 .left) (d .if3 .left) (negative d) (a .before .beyond .result) n (sign d) (a .before .beyond .ensures) (a .whole-part .ensures)
+    ∙ exp-is (arg d) (number (d .before .before)) (d .before .if2 .left) (d .if3 .left) (negative d) (a .before .half-away .result) n (sign d) (a .before .half-away .ensures) (a .whole-part .ensures)
 
 pub general-spec : {M : Type 1} → statement M
 general-spec =

@@ -1,15 +1,15 @@
 -- `at_the_money` meets its contract: each return by the tests that led there. Assumes nothing.
 use Rattle.explicit_black.specs.Quote.{atTheMoney}
-use Rattle.inverse_gaussian.specs.Counted.{afford}
+use Rattle.inverse_gaussian.specs.Counted.{limited}
 use Rattle.explicit_black.proofs.quote.at_the_money.Statement.{statement}
 use Rattle.explicit_black.proofs.quote.at_the_money.Tie as tie
 
 returns : tie.Need-returns
-unfolding afford atTheMoney
+unfolding limited atTheMoney
 returns c = rw (← c .before .implied-normalised-volatility-atm .ensures, c .if1 .taken)
 
 returns-2 : tie.Need-returns-2
-unfolding afford atTheMoney
+unfolding limited atTheMoney
 returns-2 c = rw (← c .before .implied-normalised-volatility-atm .ensures, c .if1 .left)
 
 pub at-the-money-spec : {M : Type 1} → statement M

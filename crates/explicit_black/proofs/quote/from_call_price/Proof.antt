@@ -1,30 +1,30 @@
 -- `from_call_price` meets its contract: each return by the tests that led there. Assumes nothing.
-use Rattle.explicit_black.proofs.Paying.{afford-searched}
+use Rattle.explicit_black.proofs.Paying.{limited-searched}
 use Rattle.explicit_black.specs.Quote.{fromCallPrice}
-use Rattle.inverse_gaussian.specs.Counted.{afford}
+use Rattle.inverse_gaussian.specs.Counted.{limited}
 use lib.Ieee.{nanBits}
 use Rattle.explicit_black.proofs.quote.from_call_price.Statement.{statement}
 use Rattle.explicit_black.proofs.quote.from_call_price.Tie as tie
 
 returns : tie.Need-returns
 unfolding fromCallPrice
-returns c = rw (c .before .before .if1 .taken, afford-searched, ← c .before .inverse-gaussian-quantile-from-survival .ensures) (c .total .ensures)
+returns c = rw (c .before .before .if1 .taken, limited-searched, ← c .before .inverse-gaussian-quantile-from-survival .ensures) (c .total .ensures)
 
 float-from-bits-t7 : tie.Need-float-from-bits-t7
 unfolding nanBits
 float-from-bits-t7 c = tt
 
 returns-2 : tie.Need-returns-2
-unfolding afford fromCallPrice
+unfolding limited fromCallPrice
 returns-2 c = rw (c .before .if1 .left, c .if2 .taken)
 
 returns-3 : tie.Need-returns-3
-unfolding afford fromCallPrice
+unfolding limited fromCallPrice
 returns-3 c = rw (c .before .before .if1 .left, c .before .if2 .left, c .if3 .taken)
 
 returns-4 : tie.Need-returns-4
 unfolding fromCallPrice
-returns-4 c = rw (c .before .before .before .before .if1 .left, c .before .before .before .if2 .left, c .before .before .if3 .left, afford-searched, ← c .before .inverse-gaussian-quantile .ensures) (c .total2 .ensures)
+returns-4 c = rw (c .before .before .before .before .if1 .left, c .before .before .before .if2 .left, c .before .before .if3 .left, limited-searched, ← c .before .inverse-gaussian-quantile .ensures) (c .total2 .ensures)
 
 pub from-call-price-spec : {M : Type 1} → statement M
 from-call-price-spec =

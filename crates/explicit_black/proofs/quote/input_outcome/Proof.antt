@@ -1,12 +1,12 @@
 -- `input_outcome` meets its contract: each return by the tests that led there. Assumes nothing.
 use Rattle.explicit_black.specs.Quote.{inputOutcome}
-use Rattle.inverse_gaussian.specs.Counted.{afford}
+use Rattle.inverse_gaussian.specs.Counted.{limited}
 use borrow.Author.Tests.{eq-eqb, ne-eqb}
 use Rattle.explicit_black.proofs.quote.input_outcome.Statement.{statement}
 use Rattle.explicit_black.proofs.quote.input_outcome.Tie as tie
 
 returns : tie.Need-returns
-unfolding afford inputOutcome
+unfolding limited inputOutcome
 returns c = rw (← c .before .first-refusal .ensures, ne-eqb _ _ (c .if1 .taken))
 
 returns-2 : tie.Need-returns-2

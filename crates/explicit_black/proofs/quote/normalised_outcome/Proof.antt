@@ -1,16 +1,16 @@
 -- `normalised_outcome` meets its contract: each return by the tests that led there. Assumes nothing.
 use Rattle.explicit_black.specs.Quote.{normalisedOutcome}
-use Rattle.inverse_gaussian.specs.Counted.{afford}
+use Rattle.inverse_gaussian.specs.Counted.{limited}
 use lib.Ieee.{nanBits}
 use Rattle.explicit_black.proofs.quote.normalised_outcome.Statement.{statement}
 use Rattle.explicit_black.proofs.quote.normalised_outcome.Tie as tie
 
 returns : tie.Need-returns
-unfolding afford normalisedOutcome
+unfolding limited normalisedOutcome
 returns c = rw (c .before .if1 .taken, c .if2 .taken)
 
 returns-2 : tie.Need-returns-2
-unfolding afford normalisedOutcome
+unfolding limited normalisedOutcome
 returns-2 c = rw (c .before .if1 .taken, c .if2 .left)
 
 float-from-bits-t11 : tie.Need-float-from-bits-t11
@@ -18,11 +18,11 @@ unfolding nanBits
 float-from-bits-t11 c = tt
 
 returns-3 : tie.Need-returns-3
-unfolding afford normalisedOutcome
+unfolding limited normalisedOutcome
 returns-3 c = rw (c .before .before .before .before .if1 .left, ← c .before .before .before .abs .ensures, ← c .before .before .exp .ensures, c .before .if3 .taken, c .if4 .taken)
 
 returns-4 : tie.Need-returns-4
-unfolding afford normalisedOutcome
+unfolding limited normalisedOutcome
 returns-4 c = rw (c .before .before .before .before .if1 .left, ← c .before .before .before .abs .ensures, ← c .before .before .exp .ensures, c .before .if3 .taken, c .if4 .left)
 
 returns-5 : tie.Need-returns-5

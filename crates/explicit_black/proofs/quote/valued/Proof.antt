@@ -1,15 +1,15 @@
 -- `valued` meets its contract: each return by the tests that led there. Assumes nothing.
 use Rattle.explicit_black.specs.Quote.{valued}
-use Rattle.inverse_gaussian.specs.Counted.{afford}
+use Rattle.inverse_gaussian.specs.Counted.{limited}
 use Rattle.explicit_black.proofs.quote.valued.Statement.{statement}
 use Rattle.explicit_black.proofs.quote.valued.Tie as tie
 
 returns : tie.Need-returns
-unfolding afford valued
+unfolding limited valued
 returns c = rw (c .before .if1 .taken, c .if2 .taken)
 
 returns-2 : tie.Need-returns-2
-unfolding afford valued
+unfolding limited valued
 returns-2 c = rw (c .before .if1 .taken, c .if2 .left)
 
 returns-3 : tie.Need-returns-3

@@ -3,8 +3,8 @@
 -- The measure is what is left. Assumes nothing.
 use borrow.Author.Needs.{needs}
 use mathlib.Core.Path.{sym, ap, _∙_}
-use Rattle.inverse_gaussian.specs.Counted.{afford}
-use Rattle.inverse_gaussian.specs.Drive.{go}
+use Rattle.inverse_gaussian.specs.Counted.{limited}
+use Rattle.inverse_gaussian.specs.Loops.{go}
 use Rattle.inverse_gaussian.specs.Bracket.{doublings}
 use Rattle.inverse_gaussian.specs.Bracket.{doubling, bracketQuantileFromBelow}
 use Rattle.inverse_gaussian.specs.Meanings.{evaluated, widening}
@@ -15,7 +15,7 @@ use Rattle.inverse_gaussian.proofs.bracket.bracket_quantile_from_below.
 
 abbrev Inv-loop : tie.InvT-loop
 Inv-loop initial mu probability allowed bracket₀ left₀ bracket left =
-    Carried (doubling mu probability) doublings (afford allowed (bracketQuantileFromBelow initial mu probability)) left (go bracket)
+    Carried (doubling mu probability) doublings (limited allowed (bracketQuantileFromBelow initial mu probability)) left (go bracket)
 
 abbrev μ-loop : tie.MeasureT-loop
 μ-loop initial mu probability allowed bracket₀ left₀ bracket left = left

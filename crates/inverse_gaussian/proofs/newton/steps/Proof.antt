@@ -4,7 +4,7 @@ use borrow.Author.Needs.{needs}
 use mathlib.Core.Path.{refl, sym, ap, _∙_}
 use Prim.Native.Nat.{_+_, _-_, _≤_}
 use native.Mathlib.Omega.{arith}
-use Rattle.inverse_gaussian.specs.Counted.{afford}
+use Rattle.inverse_gaussian.specs.Counted.{limited}
 use Rattle.inverse_gaussian.specs.Newton.{newtoning, later, steps}
 use Rattle.inverse_gaussian.specs.Meanings.{evaluated, stepped}
 use Rattle.inverse_gaussian.specs.LawsCounted.{Left, left-at, left-turn, left-spent, left-stop}
@@ -15,7 +15,7 @@ use Rattle.inverse_gaussian.proofs.newton.steps.Tie as tie
 
 abbrev Inv-loop : tie.InvT-loop
 Inv-loop probability log-probability mu allowed left₀ next₀ counter₀ left next counter =
-    Left (newtoning probability log-probability mu) (100 - counter) (afford allowed (steps probability log-probability mu (stepped next₀))) left (stepped next)
+    Left (newtoning probability log-probability mu) (100 - counter) (limited allowed (steps probability log-probability mu (stepped next₀))) left (stepped next)
     × (counter ≤ 100)
 
 abbrev μ-loop : tie.MeasureT-loop

@@ -4,8 +4,8 @@ use borrow.Author.Needs.{needs}
 use mathlib.Core.Path.{refl, sym, ap, _∙_}
 use Prim.Native.Nat.{_+_, _-_, _≤_}
 use native.Mathlib.Omega.{arith}
-use Rattle.inverse_gaussian.specs.Counted.{afford}
-use Rattle.inverse_gaussian.specs.Drive.{go}
+use Rattle.inverse_gaussian.specs.Counted.{limited}
+use Rattle.inverse_gaussian.specs.Loops.{go}
 use Rattle.inverse_gaussian.specs.Quantile.{rounding, rounds}
 use Rattle.inverse_gaussian.specs.Meanings.{evaluated, rounded}
 use Rattle.inverse_gaussian.specs.LawsCounted.{Left, left-turn, left-spent, left-stop, left-out}
@@ -15,7 +15,7 @@ use Rattle.inverse_gaussian.proofs.quantile.rounds.Tie as tie
 
 abbrev Inv-loop : tie.InvT-loop
 Inv-loop guess mu probability allowed bracket₀ x₀ left₀ counter₀ bracket x left counter =
-    Left (rounding mu probability) (64 - counter) (afford allowed (rounds mu probability bracket₀ x₀)) left (go (bracket, x))
+    Left (rounding mu probability) (64 - counter) (limited allowed (rounds mu probability bracket₀ x₀)) left (go (bracket, x))
     × (counter ≤ 64)
 
 abbrev μ-loop : tie.MeasureT-loop

@@ -3,7 +3,7 @@
 -- The measure is what is left. Assumes nothing.
 use borrow.Author.Needs.{needs}
 use mathlib.Core.Path.{sym, ap, _∙_}
-use Rattle.inverse_gaussian.specs.Counted.{afford}
+use Rattle.inverse_gaussian.specs.Counted.{limited}
 use Rattle.inverse_gaussian.specs.Bracket.{halvings}
 use Rattle.inverse_gaussian.specs.Survival.{survivalHalving, survivalFromAbove}
 use Rattle.inverse_gaussian.specs.Meanings.{evaluated, widening}
@@ -14,7 +14,7 @@ use Rattle.inverse_gaussian.proofs.survival.from_above.Tie as tie
 
 abbrev Inv-loop : tie.InvT-loop
 Inv-loop initial mu probability allowed trial₀ left₀ trial left =
-    Carried (survivalHalving mu probability) halvings (afford allowed (survivalFromAbove initial mu probability)) left (widening trial)
+    Carried (survivalHalving mu probability) halvings (limited allowed (survivalFromAbove initial mu probability)) left (widening trial)
 
 abbrev μ-loop : tie.MeasureT-loop
 μ-loop initial mu probability allowed trial₀ left₀ trial left = left

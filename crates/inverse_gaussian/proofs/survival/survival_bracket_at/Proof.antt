@@ -2,7 +2,7 @@
 use mathlib.Core.Path.{sym}
 use borrow.Author.Needs.{needs}
 use Rattle.inverse_gaussian.specs.Survival.{survivalBracketAt}
-use Rattle.inverse_gaussian.specs.LawsCounted.{afford-some}
+use Rattle.inverse_gaussian.specs.LawsCounted.{limited-some}
 use Rattle.inverse_gaussian.proofs.survival.survival_bracket_at.Statement.{statement}
 use Rattle.inverse_gaussian.proofs.survival.survival_bracket_at.Tie as tie
 
@@ -12,7 +12,7 @@ returns c = rw (c .from-below .ensures, c .before .if1 .taken)
 
 returns-2 : tie.Need-returns-2
 unfolding survivalBracketAt
-returns-2 c = rw (c .reach .ensures, c .before .from-above .ensures, c .before .before .if1 .left) (sym (afford-some _ _))
+returns-2 c = rw (c .reach .ensures, c .before .from-above .ensures, c .before .before .if1 .left) (sym (limited-some _ _))
 
 pub survival-bracket-at-spec : {M : Type 1} → statement M
 survival-bracket-at-spec = tie.close (tie.spec (λ c κs. search needs) (λ c κs. search needs) (λ c κs. tt) returns returns-2)

@@ -13,7 +13,7 @@ returns-2 : tie.Need-returns-2
 unfolding inverseGaussianCdf
 returns-2 c = let e = c .before .before .before .before .before .pre in
     paid _ _ _ (c .before .before .before .before .if1 .left)
-    (rw (c .erfcx-cody .ensures, c .before .before .norm-cdf .ensures, ap (λ p. p .a) e, ap (λ p. p .leading) e, ap (λ p. p .inverse) e, ap (λ p. p .exponential) e))
+    (rw (c .erfcx-cody .ensures, c .before .before .norm-cdf .ensures, ap (λ p. p .a) e, ap (λ p. p .leading) e, ap (λ p. p .«inv_sqrt_x») e, ap (λ p. p .exponential) e))
 
 pub cdf-spec : {M : Type 1} → statement M
 cdf-spec = tie.close (tie.spec returns (λ c κs. tt) (λ c κs. tt) (λ c. search needs) returns-2)

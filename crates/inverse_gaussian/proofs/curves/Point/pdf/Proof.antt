@@ -9,7 +9,7 @@ use Rattle.inverse_gaussian.proofs.curves.Point.pdf.Tie as tie
 returns : tie.Need-returns
 unfolding inverseGaussianPdf normPdf
 returns c = let s = c .before .before in
-    rw (c .before .exponential-of-square .ensures, ap (λ p. p .a) (s .pre), ap (λ p. p .root) (s .pre))
+    rw (c .before .exponential-of-square .ensures, ap (λ p. p .a) (s .pre), ap (λ p. p .«sqrt_x») (s .pre))
 
 pub pdf-spec : {M : Type 1} → statement M
 pdf-spec = tie.close (tie.spec (λ c κs. search needs) returns)

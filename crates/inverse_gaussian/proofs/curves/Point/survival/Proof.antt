@@ -16,7 +16,7 @@ returns-2 : tie.Need-returns-2
 unfolding inverseGaussianSurvival
 returns-2 c = let s = c .before .before .before .before .before in
     paid _ _ _ (c .before .before .before .before .if1 .left)
-    (rw (c .exp .ensures, c .before .normalised-black .ensures, c .before .before .before .recip .ensures, ap (λ p. p .leading) (s .pre), ap (λ p. p .inverse) (s .pre), sym (div-neg binary64 (sqrt (s .args .self .x)) (s .args .self .mu))))
+    (rw (c .exp .ensures, c .before .normalised-black .ensures, c .before .before .before .recip .ensures, ap (λ p. p .leading) (s .pre), ap (λ p. p .«inv_sqrt_x») (s .pre), sym (div-neg binary64 (sqrt (s .args .self .x)) (s .args .self .mu))))
 
 pub survival-spec : {M : Type 1} → statement M
 survival-spec = tie.close (tie.spec returns (λ c κs. tt) (λ c κs. tt) (λ c κs. tt) (λ c. search needs) returns-2)

@@ -6,7 +6,7 @@ use Rattle.inverse_gaussian.proofs.newton.Newton.first.Tie as tie
 
 returns : tie.Need-returns
 unfolding first
-returns c = rw (c .landed .ensures, c .before .before .before .self .given .1, c .before .signum .ensures)
+returns c = rw (c .after-move .ensures, c .before .before .before .self .given .1, c .before .signum .ensures)
 
 returns-2 : tie.Need-returns-2
 unfolding first

@@ -20,11 +20,11 @@ abbrev pub step : {S R : Type 0} → Loop S R → S → Next S R
 step l s = l .advance s (l .ask (l .point s))
 
 -- at most k turns, each of one evaluation
-unfoldable pub drive : {S R : Type 0} → Loop S R → ℕ → Next S R → Counted R
-drive l zero (go s) = atOnce (l .out s)
-drive l zero (stop r) = atOnce r
-drive l (suc k) (go s) = tick (drive l k (step l s))
-drive l (suc k) (stop r) = atOnce r
+unfoldable pub iterate : {S R : Type 0} → Loop S R → ℕ → Next S R → Counted R
+iterate l zero (go s) = atOnce (l .out s)
+iterate l zero (stop r) = atOnce r
+iterate l (suc k) (go s) = tick (iterate l k (step l s))
+iterate l (suc k) (stop r) = atOnce r
 
 -- within k turns the loop stops by itself
 unfoldable pub Ends : {S R : Type 0} → Loop S R → ℕ → Next S R → Type 0

@@ -1,65 +1,10 @@
-// The square root of an f64, rounded to the nearest f64: an estimate in floats where a test on integers finds it
-// right, which is nearly always, and else arithmetic on integers.
+// The square root of an f64, rounded to the nearest f64: an estimate in floats, or one next to it, where a test on
+// integers finds it right; else digit by digit.
 ghost use mathlib.Core.Path.{_≡_};
 ghost use Prim.Native.Nat.{_+_, _*_, _/_, _%_, _^_, _≤_, _<_};
 ghost use lib.Dec.{T};
 ghost use Rattle.arithmetic.specs.Sqrt.{closestRoot, sqrtUnits, sqrt};
 use super::root_table;
-
-// The whole number nearest to √(w * 2^52). Each turn takes two binary digits more of w * 2^52 and finds one of the
-// root: r is the whole root of those taken, e how much they are above r², and rest the digits of w to come.
-fn closest(w: u64) -> u64
-    requires { ⌜ (2 ^ 52 ≤ w) × (w + 1 < 2 ^ 54) ⌝ }
-    ensures { λ r. ⌜ (r ≡ closestRoot (w * 2 ^ 52) 0) × (2 ^ 52 ≤ r) × (r < 2 ^ 53) ⌝ }
-{
-    let mut r = 0;
-    let mut e = 0;
-    let mut rest = w;
-    for _ in 0u32..53 {
-        e = 4 * e + rest / 4503599627370496;
-        rest = rest % 4503599627370496 * 4;
-        r = 2 * r;
-        if 2 * r < e {
-            e = e - 2 * r - 1;
-            r += 1;
-        }
-    }
-    if r < e { r + 1 } else { r }
-}
-
-// √(m * 2^p) units of 2^-1074, rounded.
-fn of_digits(m: u64, p: u64) -> f64
-    requires { ⌜ (2 ^ 52 ≤ m) × (m < 2 ^ 53) × (1022 ≤ p) × (p < 3120) ⌝ }
-    ensures { λ r. ⌜ r ≡ sqrtUnits (m * 2 ^ p) ⌝ }
-{
-    let k = (p - 52) / 2;
-    let mut w = m;
-    if p % 2 != 0 {
-        w = 2 * m;
-    }
-    f64::from_bits(k * 4503599627370496 + closest(w))
-}
-
-// An estimate of √x for the normal x above 0 with pattern b: the nearest f64 for all but about 1 in 200, and no proof
-// asks it to be. With x = z * 4^j for a z from 1/2 to 2, s from the table and h = (z - s²) / (4s²), √z is
-// s + 2sh * (1 - h + 2h² - 5h³ + ..); z - s² is exact, and |h| is below 2^-7.
-fn estimate(b: u64) -> f64
-    requires { ⌜ b < 9218868437227405312 ⌝ }
-{
-    let i = b / 281474976710656 % 32;
-    let z = f64::from_bits(b % 9007199254740992 + 4602678819172646912);
-    let scale = f64::from_bits((b / 9007199254740992 + 512) * 4503599627370496);
-    let slope = root_table::slope(i);
-    let d = z - root_table::square(i);
-    let h = d * (slope * slope);
-    let t = d * (slope * scale);
-    let h2 = h * h;
-    let th = t * h;
-    let near = t + th * (2.0000000000295675 * h - 1.0);
-    let middle = 13.999995878540293 * h - 5.0;
-    let far = (132.14362418261675 * h - 42.0) - 429.0 * h2;
-    root_table::root(i) * scale + (near + th * h2 * (middle + h2 * far))
-}
 
 // Whether q is the whole number nearest to √(w * 2^52): true only if it is, and nearly always if it is. With s and d the
 // upper and the lower digits of q, and v = (w - s²) * 2^26 + s - 2sd, w * 2^52 - q² + q = v * 2^26 + d - d².
@@ -95,6 +40,77 @@ fn is_closest(w: u64, q: u64) -> bool
     a <= d * d + 2 * q
 }
 
+// The whole number nearest to √(w * 2^52). Each turn takes two binary digits more of w * 2^52 and finds one of the
+// root: r is the whole root of those taken, e how much they are above r², and rest the digits of w to come.
+fn by_digits(w: u64) -> u64
+    requires { ⌜ (2 ^ 52 ≤ w) × (w + 1 < 2 ^ 54) ⌝ }
+    ensures { λ r. ⌜ (r ≡ closestRoot (w * 2 ^ 52) 0) × (2 ^ 52 ≤ r) × (r < 2 ^ 53) ⌝ }
+{
+    let mut r = 0;
+    let mut e = 0;
+    let mut rest = w;
+    for _ in 0u32..53 {
+        e = 4 * e + rest / 4503599627370496;
+        rest = rest % 4503599627370496 * 4;
+        r = 2 * r;
+        if 2 * r < e {
+            e = e - 2 * r - 1;
+            r += 1;
+        }
+    }
+    if r < e { r + 1 } else { r }
+}
+
+// The same. An estimate q that is not nearest is nearly always next to what is.
+fn closest(w: u64, q: u64) -> u64
+    requires { ⌜ (2 ^ 52 ≤ w) × (w + 1 < 2 ^ 54) ⌝ }
+    ensures { λ r. ⌜ (r ≡ closestRoot (w * 2 ^ 52) 0) × (2 ^ 52 ≤ r) × (r < 2 ^ 53) ⌝ }
+{
+    let above = std::num::wrapping_add_u64(q, 1);
+    if is_closest(w, above) {
+        return above;
+    }
+    let below = std::num::wrapping_sub_u64(q, 1);
+    if is_closest(w, below) {
+        return below;
+    }
+    by_digits(w)
+}
+
+// √(m * 2^p) units of 2^-1074, rounded. q is an estimate of its digits, or any number.
+fn of_digits(m: u64, p: u64, q: u64) -> f64
+    requires { ⌜ (2 ^ 52 ≤ m) × (m < 2 ^ 53) × (1022 ≤ p) × (p < 3120) ⌝ }
+    ensures { λ r. ⌜ r ≡ sqrtUnits (m * 2 ^ p) ⌝ }
+{
+    let k = (p - 52) / 2;
+    let mut w = m;
+    if p % 2 != 0 {
+        w = 2 * m;
+    }
+    f64::from_bits(k * 4503599627370496 + closest(w, q))
+}
+
+// An estimate of √x for the normal x above 0 with pattern b: the nearest f64 for all but about 1 in 200, and no proof
+// asks it to be. With x = z * 4^j for a z from 1/2 to 2, s from the table and h = (z - s²) / (4s²), √z is
+// s + 2sh * (1 - h + 2h² - 5h³ + ..); z - s² is exact, and |h| is below 2^-7.
+fn estimate(b: u64) -> f64
+    requires { ⌜ b < 9218868437227405312 ⌝ }
+{
+    let i = b / 281474976710656 % 32;
+    let z = f64::from_bits(b % 9007199254740992 + 4602678819172646912);
+    let scale = f64::from_bits((b / 9007199254740992 + 512) * 4503599627370496);
+    let slope = root_table::slope(i);
+    let d = z - root_table::square(i);
+    let h = d * (slope * slope);
+    let t = d * (slope * scale);
+    let h2 = h * h;
+    let th = t * h;
+    let near = t + th * (2.0000000000295675 * h - 1.0);
+    let middle = 13.999995878540293 * h - 5.0;
+    let far = (132.14362418261675 * h - 42.0) - 429.0 * h2;
+    root_table::root(i) * scale + (near + th * h2 * (middle + h2 * far))
+}
+
 // The root of a normal x above 0 with pattern b.
 fn of_normal(b: u64) -> f64
     requires { ⌜ (4503599627370496 ≤ b) × (b < 9218868437227405312) ⌝ }
@@ -107,13 +123,14 @@ fn of_normal(b: u64) -> f64
     if digits < 4503599627370496 {
         w = 2 * digits + 9007199254740992;
     }
+    let mut q = 0;
     if r == r {
-        let q = std::num::wrapping_sub_u64(f64::to_bits(r), (p - 52) / 2 * 4503599627370496);
+        q = std::num::wrapping_sub_u64(f64::to_bits(r), (p - 52) / 2 * 4503599627370496);
         if is_closest(w, q) {
             return r;
         }
     }
-    of_digits(4503599627370496 + b % 4503599627370496, p)
+    of_digits(4503599627370496 + b % 4503599627370496, p, q)
 }
 
 // The same of a subnormal number, which is b units.
@@ -127,7 +144,7 @@ fn of_subnormal(b: u64) -> f64
         m = 2 * m;
         i += 1;
     }
-    of_digits(m, 1074 - i)
+    of_digits(m, 1074 - i, 0)
 }
 
 // The f64 nearest to √x. A zero is its own root, with its sign, and anything else below zero has

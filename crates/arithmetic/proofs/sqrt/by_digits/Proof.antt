@@ -2,7 +2,6 @@
 use Prim.Native.Nat.{_-_, _*_, _≤_, _<_}
 use mathlib.Core.Logic.{⊎-elim}
 use native.Mathlib.Omega.{arith}
-use borrow.Author.Needs.{needs}
 use Rattle.arithmetic.proofs.RootDigits.{Upper, small, upper-none, next-0, next-1, up, stay, closest-of}
 use Rattle.arithmetic.proofs.sqrt.by_digits.Statement.{statement}
 use Rattle.arithmetic.proofs.sqrt.by_digits.Tie as tie
@@ -37,4 +36,10 @@ returns-2 c = closest-of (c .before .before .before .args .w) _ (c .before .befo
 pub by-digits-spec : {M : Type 1} → statement M
 by-digits-spec =
     tie.close
-    (tie.spec Inv-loop μ-loop loop-holds (λ c. omega (arith, bound c)) (λ c. omega (arith, bound c)) (λ c. omega (arith, bound c)) (λ c. omega (arith, bound c)) (λ c. omega (arith, bound c)) (λ c. omega (arith, bound (c .before))) (λ c. omega (arith, bound (c .before))) (λ c. omega (arith, bound (c .before))) (λ c. omega (arith, bound (c .before))) (λ c. omega arith) (λ c. omega arith) loop-again (λ c. omega (arith, small _ _ _ _ _ (c .before .before .loop .inv .0) (c .before .before .loop .inv .1))) returns returns-2)
+    (tie.spec Inv-loop μ-loop loop-holds (λ c. omega (arith, bound c)) (λ c. omega (arith, bound c))
+    (λ c. omega (arith, bound c)) (λ c. omega (arith, bound c)) (λ c. omega (arith, bound c))
+    (λ c. omega (arith, bound (c .before))) (λ c. omega (arith, bound (c .before)))
+    (λ c. omega (arith, bound (c .before))) (λ c. omega (arith, bound (c .before))) (λ c. omega arith)
+    (λ c. omega arith) loop-again
+    (λ c. omega (arith, small _ _ _ _ _ (c .before .before .loop .inv .0) (c .before .before .loop .inv .1))) returns
+    returns-2)

@@ -2,17 +2,31 @@
 use mathlib.Core.Path.{_≡_, refl, sym, ap, _∙_, subst}
 use mathlib.Core.Logic.{_⊎_, inl, inr}
 use Prim.Native.Nat.{ℕ, zero, suc, _+_, _-_, _*_, _/_, _%_, _^_, _≤_, _<_}
-use native.Mathlib.Nat.{lt-of-not-le, le-trans, le-of-eq, one-mul, mul-assoc, mul-left-comm, mul-le-mul-right, mul-pos, eq-or-lt-of-le}
+use native.Mathlib.Nat.{div-one, div-lt-iff-lt-mul, lt-of-lt-of-le, le-of-eq, mul-one, mul-comm, mul-assoc, mul-pos, eq-or-lt-of-le}
 use native.Mathlib.Omega.{arith}
-use mathlib.Core.Bool.{Bool, true, false, cond}
-use lib.Pow.{pow-pos, pow-mono}
-use lib.Dec.{T, eqb}
-use lib.Ieee.{Float, nan, inf, binary64, odd, ofFields, ofBits, isNan, ne}
+use mathlib.Core.Bool.{Bool, true, false, not, cond}
+use lib.Pow.{pow-pos}
+use lib.Dec.{T, eqb, lit<}
+use lib.IntN.{pos}
+use lib.Ieee.{Float, nan, inf, binary64, odd, ofFields, ofBits, toBits, ofInt, round, size, fits, isNan, ne}
+use lib.Ieee.Bits.{ofBits-fits, ofBits-toBits}
+use lib.Ieee.Digits.{size-lt, size-le}
+use lib.Ieee.Positive.{num, den, den-pos, positive-of-value}
+use lib.Ieee.Fits.{round-fits}
+use lib.Ieee.Back.{round-whole}
 use lib.Ieee.Compare.{differs-from-itself}
-use lib.Ieee.Exact.{odd-sign}
-use Rattle.arithmetic.specs.Laws.Numbers.{pow-split, four}
+use lib.Ieee.Exact.{HasValue, odd-sign}
+use Rattle.arithmetic.specs.Laws.Numbers.{pow-split, four, size-mul, false-not}
+use Rattle.arithmetic.specs.Laws.Times.{Times, has-finite, rescale, of-cross, positive-sign}
+use Rattle.arithmetic.specs.Laws.Compare.{finite-no-nan}
+use Rattle.arithmetic.specs.Laws.SqrtScaling.{units-times}
+use Rattle.arithmetic.specs.Laws.SqrtNearest.{sqrt-fits}
+use Rattle.arithmetic.specs.Laws.SqrtBounds.{sqrt-positive}
+use Rattle.arithmetic.specs.Laws.PowersOfTwo.{times-fraction}
+use Rattle.arithmetic.specs.Laws.Own.{round-self}
+use Rattle.arithmetic.specs.Operations.{_⊗_}
 use Rattle.arithmetic.specs.Sqrt.{sqrtUnits, sqrt}
-use Rattle.arithmetic.specs.Laws.Patterns.{signed-is, at-zero, above-zero, subnormal, normal, built, no-nan}
+use Rattle.arithmetic.specs.Laws.Patterns.{signed-is, at-zero, above-zero, subnormal, normal, built, no-nan, bitsAt, bits-of}
 use Rattle.arithmetic.specs.Laws.WholeRoots.{units-at}
 use Rattle.arithmetic.specs.Laws.SqrtValues.{sqrt-of, sqrt-below}
 use Rattle.arithmetic.proofs.RootDigits.{Closest}
@@ -46,10 +60,7 @@ of-itself b lo hi n = go (eq-or-lt-of-le hi)
 of-odd : (q k : ℕ) → 0 < q → sqrt (odd 53 false q k 1074) ≡ sqrtUnits (q * 2 ^ (k + 1074))
 of-odd q k h = sqrt-of (odd 53 false q k 1074) (q * 2 ^ k) (mul-pos h (pow-pos k)) (odd-sign 53 false q k 1074) ∙ ap sqrtUnits (mul-assoc q (2 ^ k) (2 ^ 1074) ∙ ap (λ (x : ℕ). q * x) (pow-split k 1074 (k + 1074) refl))
 
-pub of-low : (b : ℕ) → 0 < b → b < 4503599627370496 → sqrt (ofBits binary64 b) ≡ sqrtUnits (b * 2 ^ 1074)
-of-low b p h = ap sqrt (subnormal b h) ∙ of-odd b 0 p
-
-pub of-normal : (b : ℕ) → 4503599627370496 ≤ b → b < 9218868437227405312 → sqrt (ofBits binary64 b) ≡ sqrtUnits ((4503599627370496 + b % 4503599627370496) * 2 ^ (1073 + b / 4503599627370496))
+of-normal : (b : ℕ) → 4503599627370496 ≤ b → b < 9218868437227405312 → sqrt (ofBits binary64 b) ≡ sqrtUnits ((4503599627370496 + b % 4503599627370496) * 2 ^ (1073 + b / 4503599627370496))
 of-normal b lo hi =
     let m = 4503599627370496 + b % 4503599627370496 in
     let e : b / 4503599627370496 - 1 + 1074 ≡ 1073 + b / 4503599627370496 = omega arith in
@@ -78,25 +89,63 @@ of-below b lo hi =
     let e : b ≡ 9223372036854775808 + r = omega arith in
     ap (λ (x : ℕ). sqrt (ofBits binary64 x)) e ∙ ap sqrt (signed-is true r (omega arith)) ∙ fields-below (r / 4503599627370496) (r % 4503599627370496) (omega arith)
 
--- ---- the pattern that `of_digits` puts together: w * 2 ^ 52 is m * 2 ^ i, for an i of p's parity
-pub pattern-at : (m p w i r : ℕ) → 2 ^ 52 ≤ w → w + 1 < 2 ^ 54 → (p - 52) / 2 < 2046 → w * 2 ^ 52 ≡ m * 2 ^ i → i + 2 * ((p - 52) / 2) ≡ p → Closest w r
-    → ofBits binary64 ((p - 52) / 2 * 4503599627370496 + r) ≡ sqrtUnits (m * 2 ^ p)
-pattern-at m p w i r lo hi K e g h =
-    let k = (p - 52) / 2 in
+-- ---- the pattern that `of_normal` puts together: w * 2 ^ 52 is the 53 digits times 2 ^ i, for the i that makes the exponent even
+pub pattern-at : (b k w i r : ℕ) → 4503599627370496 ≤ b → b < 9218868437227405312 → 2 ^ 52 ≤ w → w + 1 < 2 ^ 54 → k < 2046
+    → w * 2 ^ 52 ≡ (4503599627370496 + b % 4503599627370496) * 2 ^ i → i + 2 * k ≡ 1073 + b / 4503599627370496 → Closest w r
+    → ofBits binary64 (k * 4503599627370496 + r) ≡ sqrt (ofBits binary64 b)
+pattern-at b k w i r low high lo hi K e g h =
+    let m = 4503599627370496 + b % 4503599627370496 in
     built k r K (h .1) (h .2)
     ∙ ap (λ (q : ℕ). odd 53 false q k 1074) (h .0)
     ∙ sym (units-at (w * 2 ^ 52) k (omega arith) (omega arith))
-    ∙ ap sqrtUnits (ap (λ (x : ℕ). x * 4 ^ k) e ∙ mul-assoc m (2 ^ i) (4 ^ k) ∙ ap (λ (x : ℕ). m * x) (ap (λ (x : ℕ). 2 ^ i * x) (four k) ∙ pow-split i (2 * k) p g))
+    ∙ ap sqrtUnits (ap (λ (x : ℕ). x * 4 ^ k) e ∙ mul-assoc m (2 ^ i) (4 ^ k) ∙ ap (λ (x : ℕ). m * x) (ap (λ (x : ℕ). 2 ^ i * x) (four k) ∙ pow-split i (2 * k) (1073 + b / 4503599627370496) g))
+    ∙ sym (of-normal b low high)
 
--- ---- what `of_subnormal` does: b units are m * 2 ^ -i for m = b * 2 ^ i
-pub room : (b m i : ℕ) → 0 < b → m ≡ b * 2 ^ i → m < 2 ^ 52 → i < 52
-room b m i B e h = lt-of-not-le (λ (g : 52 ≤ i). no (le-trans (pow-mono g) (le-trans (le-of-eq (sym (one-mul (2 ^ i)))) (mul-le-mul-right (2 ^ i) B))))
-  where
-    no : 2 ^ 52 ≤ b * 2 ^ i → ⊥
-    no g = omega arith
+unit-root : HasValue (ofBits binary64 0x1e60_0000_0000_0000) false 1 (2 ^ 537)
+unfolding ofBits
+unit-root = (refl, refl)
 
-pub doubled : (b m i : ℕ) → m ≡ b * 2 ^ i → 2 * m ≡ b * 2 ^ (i + 1)
-doubled b m i e = ap (λ (x : ℕ). 2 * x) e ∙ mul-left-comm 2 b (2 ^ i) ∙ ap (λ (x : ℕ). b * x) (pow-split 1 i (i + 1) (omega arith))
+-- ---- what `of_subnormal` does: b units are b * 2 ^ -1074, so the root is that of b times 2 ^ -537
+module _ (b : ℕ) (some : 0 < b) (few : b < 4503599627370496) where
+  abbrev y : Float
+  y = ofInt binary64 (pos b)
 
-pub same-value : (b m i : ℕ) → m ≡ b * 2 ^ i → i ≤ 52 → m * 2 ^ (1074 - i) ≡ b * 2 ^ 1074
-same-value b m i e h = ap (λ (x : ℕ). x * 2 ^ (1074 - i)) e ∙ mul-assoc b (2 ^ i) (2 ^ (1074 - i)) ∙ ap (λ (x : ℕ). b * x) (pow-split i (1074 - i) 1074 (omega arith))
+  y-value : HasValue y false b 1
+  unfolding ofInt
+  y-value = round-whole binary64 false b (omega arith)
+
+  y-fits : T (fits binary64 y)
+  unfolding ofInt
+  y-fits = round-fits binary64 false b 1
+
+  pub whole-no-nan : T (not (isNan y))
+  whole-no-nan = false-not (isNan y) (finite-no-nan y (has-finite y false b 1 y-value))
+
+  pub whole-normal : (4503599627370496 ≤ toBits binary64 y) × (toBits binary64 y < 9218868437227405312)
+  whole-normal =
+      let n = b * 2 ^ 1074 in
+      let z = size b in
+      let k : size n - 53 ≡ z + 1021 = ap (λ (s : ℕ). s - 53) (size-mul b 1074 some) ∙ less z in
+      let digits : n / 2 ^ (z + 1021) < 2 ^ 53 = div-lt-iff-lt-mul (pow-pos (z + 1021)) .1 (lt-of-lt-of-le (size-lt n) (le-of-eq (ap (λ (s : ℕ). 2 ^ s) (size-mul b 1074 some) ∙ sym (pow-split 53 (z + 1021) (z + 1074) (omega arith))))) in
+      subst (λ (c : ℕ). (4503599627370496 ≤ c) × (c < 9218868437227405312)) (sym (bits-of binary64 y false b 1 (pow-pos 0) y-value ∙ ap (bitsAt binary64 false) (div-one n) ∙ ap (λ (j : ℕ). 0 + j * 2 ^ 52 + n / 2 ^ j) k))
+      (between (size b) (n / 2 ^ (z + 1021)) (size-le b 52 few) digits)
+    where
+      less : (z : ℕ) → z + 1074 - 53 ≡ z + 1021
+      less z = omega arith
+
+      between : (z d : ℕ) → z ≤ 52 → d < 2 ^ 53 → (4503599627370496 ≤ 0 + (z + 1021) * 2 ^ 52 + d) × (0 + (z + 1021) * 2 ^ 52 + d < 9218868437227405312)
+      between z d h g = (omega arith, omega arith)
+
+  pub of-whole : (r : Float) → r ≡ sqrt (ofBits binary64 (toBits binary64 y)) → r ⊗ ofBits binary64 0x1e60_0000_0000_0000 ≡ sqrt (ofBits binary64 b)
+  of-whole r e =
+      let x = ofBits binary64 b in
+      let v : HasValue x false b (2 ^ 1074) = subst (λ (z : Float). HasValue z false b (2 ^ 1074)) (sym (subnormal b few)) (subst (λ (n : ℕ). HasValue (odd 53 false b 0 1074) false n (2 ^ 1074)) (mul-one b) (odd-sign 53 false b 0 1074)) in
+      let p = positive-of-value x b (2 ^ 1074) v some in
+      let t : Times 537 (sqrt x) (sqrt y) = units-times x y b 537 some v (rescale y false b 1 (b * 4 ^ 537) (2 ^ 1074) (pow-pos 0) (mul-one (b * 4 ^ 537)) y-value) in
+      let q = sqrt y in
+      ap (λ (z : Float). z ⊗ ofBits binary64 0x1e60_0000_0000_0000) (e ∙ ap sqrt (ofBits-toBits binary64 y y-fits))
+      ∙ times-fraction q (ofBits binary64 0x1e60_0000_0000_0000) 1 (2 ^ 537) (t .finite-r) (lit< tt) (pow-pos 537) unit-root
+      ∙ ap (λ (s : Bool). round binary64 s (num q * 1) (den q * 2 ^ 537)) (t .sign ∙ positive-sign (sqrt x) (sqrt-positive x p (ofBits-fits binary64 b)))
+      ∙ round-self binary64 (sqrt x) false (num q * 1) (den q * 2 ^ 537) (mul-pos (den-pos q) (pow-pos 537)) (sqrt-fits x p (ofBits-fits binary64 b))
+      (of-cross (sqrt x) false (num q * 1) (den q * 2 ^ 537) (t .finite-l) (positive-sign (sqrt x) (sqrt-positive x p (ofBits-fits binary64 b)))
+      (ap (λ (n : ℕ). num (sqrt x) * n) (mul-comm (den q) (2 ^ 537)) ∙ sym (mul-assoc (num (sqrt x)) (2 ^ 537) (den q)) ∙ sym (t .value) ∙ ap (λ (n : ℕ). n * den (sqrt x)) (sym (mul-one (num q)))))

@@ -3,7 +3,8 @@
 ghost use mathlib.Core.Path.{_≡_};
 ghost use Prim.Native.Nat.{_+_, _*_, _/_, _%_, _^_, _≤_, _<_};
 ghost use lib.Dec.{T};
-ghost use Rattle.arithmetic.specs.Sqrt.{closestRoot, sqrtUnits, sqrt};
+ghost use lib.Ieee.{binary64, ofBits};
+ghost use Rattle.arithmetic.specs.Sqrt.{closestRoot, sqrt};
 use super::root_table;
 
 // Whether q is the whole number nearest to √(w * 2^52): true only if it is, and nearly always if it is. With s and d the
@@ -77,19 +78,6 @@ fn closest(w: u64, q: u64) -> u64
     by_digits(w)
 }
 
-// √(m * 2^p) units of 2^-1074, rounded. q is an estimate of its digits, or any number.
-fn of_digits(m: u64, p: u64, q: u64) -> f64
-    requires { ⌜ (2 ^ 52 ≤ m) × (m < 2 ^ 53) × (1022 ≤ p) × (p < 3120) ⌝ }
-    ensures { λ r. ⌜ r ≡ sqrtUnits (m * 2 ^ p) ⌝ }
-{
-    let k = (p - 52) / 2;
-    let mut w = m;
-    if p % 2 != 0 {
-        w = 2 * m;
-    }
-    f64::from_bits(k * 4503599627370496 + closest(w, q))
-}
-
 // An estimate of √x for the normal x above 0 with pattern b: the nearest f64 for all but about 1 in 200, and no proof
 // asks it to be. With x = z * 4^j for a z from 1/2 to 2, s from the table and h = (z - s²) / (4s²), √z is
 // s + 2sh * (1 - h + 2h² - 5h³ + ..); z - s² is exact, and |h| is below 2^-7.
@@ -111,13 +99,13 @@ fn estimate(b: u64) -> f64
     root_table::root(i) * scale + (near + th * h2 * (middle + h2 * far))
 }
 
-// The root of a normal x above 0 with pattern b.
+// The root of the normal x above 0 with pattern b.
 fn of_normal(b: u64) -> f64
     requires { ⌜ (4503599627370496 ≤ b) × (b < 9218868437227405312) ⌝ }
-    ensures { λ r. ⌜ r ≡ sqrtUnits ((4503599627370496 + b % 4503599627370496) * 2 ^ (1073 + b / 4503599627370496)) ⌝ }
+    ensures { λ r. ⌜ r ≡ sqrt (ofBits binary64 b) ⌝ }
 {
     let r = estimate(b);
-    let p = 1073 + b / 4503599627370496;
+    let k = (1021 + b / 4503599627370496) / 2;
     let digits = b % 9007199254740992;
     let mut w = digits;
     if digits < 4503599627370496 {
@@ -125,26 +113,20 @@ fn of_normal(b: u64) -> f64
     }
     let mut q = 0;
     if r == r {
-        q = std::num::wrapping_sub_u64(f64::to_bits(r), (p - 52) / 2 * 4503599627370496);
+        q = std::num::wrapping_sub_u64(f64::to_bits(r), k * 4503599627370496);
         if is_closest(w, q) {
             return r;
         }
     }
-    of_digits(4503599627370496 + b % 4503599627370496, p, q)
+    f64::from_bits(k * 4503599627370496 + closest(w, q))
 }
 
-// The same of a subnormal number, which is b units.
+// The same of the subnormal x with pattern b, which is b * 2^-1074: √b times 2^-537.
 fn of_subnormal(b: u64) -> f64
     requires { ⌜ (0 < b) × (b < 2 ^ 52) ⌝ }
-    ensures { λ r. ⌜ r ≡ sqrtUnits (b * 2 ^ 1074) ⌝ }
+    ensures { λ r. ⌜ r ≡ sqrt (ofBits binary64 b) ⌝ }
 {
-    let mut m = b;
-    let mut i = 0;
-    while m < 4503599627370496 {
-        m = 2 * m;
-        i += 1;
-    }
-    of_digits(m, 1074 - i, 0)
+    of_normal(f64::to_bits(b as f64)) * f64::from_bits(0x1e60_0000_0000_0000)
 }
 
 // The f64 nearest to √x. A zero is its own root, with its sign, and anything else below zero has

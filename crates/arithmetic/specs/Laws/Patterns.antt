@@ -92,10 +92,10 @@ pub no-nan : (b : ℕ) → isNan (ofBits binary64 b) ≡ false → b % 922337203
 no-nan b h = ltb-false 9218868437227405312 (b % 9223372036854775808) (sym (nanBits-above binary64 b) ∙ nanBits-is binary64 b ∙ h)
 
 -- ---- the pattern of a value, by its size in units of the smallest value
-abbrev bitsAt : Format → Bool → ℕ → ℕ
+abbrev pub bitsAt : Format → Bool → ℕ → ℕ
 bitsAt f s n = cond s (top f) 0 + (size n - prec f) * hid f + n / 2 ^ (size n - prec f)
 
-bits-of : (f : Format) (x : Float) (s : Bool) (a c : ℕ) → 0 < c → HasValue x s a c → toBits f x ≡ bitsAt f s (a * 2 ^ low f / c)
+pub bits-of : (f : Format) (x : Float) (s : Bool) (a c : ℕ) → 0 < c → HasValue x s a c → toBits f x ≡ bitsAt f s (a * 2 ^ low f / c)
 unfolding toBits
 bits-of f nan s a c C v = absurd v
 bits-of f (inf t) s a c C v = absurd v

@@ -1,13 +1,14 @@
 -- What `sqrt` is of a finite value above zero: a value of the format with all its 53 digits, less than half a unit of the last of them from the real root. Assumes nothing.
 use mathlib.Core.Path.{_≡_, sym, ap, _∙_, subst}
 use Prim.Native.Nat.{ℕ, _+_, _-_, _*_, _/_, _^_, _≤_, _<_}
-use native.Mathlib.Nat.{le-trans, le-of-eq, lt-irrefl, lt-of-lt-of-le, lt-of-le-of-lt, lt-of-not-le, mul-assoc, mul-le-mul-left, mul-le-mul-right, mul-lt-mul-of-pos-right}
+use native.Mathlib.Nat.{le-trans, le-of-eq, le-of-lt, lt-irrefl, lt-of-lt-of-le, lt-of-le-of-lt, lt-of-not-le, mul-assoc, mul-le-mul-left, mul-le-mul-right, mul-lt-mul-of-pos-right}
 use native.Mathlib.Omega.{arith}
 use mathlib.Core.Bool.{false}
-use lib.Pow.{pow-pos, pow-mono}
+use lib.Pow.{pow-pos, pow-mono, shl-lt}
 use lib.Dec.{T}
 use lib.Ieee.{Float, binary64, size, odd, fits}
 use lib.Ieee.Digits.{size-lt, size-le, size-reaches}
+use lib.Ieee.Fits.{odd-fits}
 use lib.Ieee.Exact.{HasValue, odd-sign}
 use lib.Ieee.Positive.{positive, positive-finite, first-pos, value-pos}
 use Rattle.arithmetic.specs.Sqrt.{closestRoot, sqrtUnits, sqrt}
@@ -101,3 +102,8 @@ sqrt-right x p f =
     bounds z j a b c = (omega arith, omega arith, omega arith, omega arith)
 
 -- ---- the format holds every root
+pub sqrt-fits : (x : Float) → T (positive x) → T (fits binary64 x) → T (fits binary64 (sqrt x))
+sqrt-fits x p f =
+    let r = sqrt-right x p f in
+    let room : 53 + r .k ≤ 2098 = omega (arith, r .k-lt) in
+    subst (λ (z : Float). T (fits binary64 z)) (sym (r .root-is)) (odd-fits binary64 53 false (r .q) (r .k) (r .q-high) (le-of-lt (r .q-high)) (lt-of-lt-of-le (shl-lt 53 (r .k) (r .q-high)) (pow-mono room)))

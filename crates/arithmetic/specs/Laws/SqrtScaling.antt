@@ -27,8 +27,8 @@ scaled-root a j h =
     dropped z h = omega arith
 
 -- x is A units and y is A * 4 ^ j
-roots-times : (x y : Float) (A j : ℕ) → 0 < A → HasValue x false A (2 ^ 1074) → HasValue y false (A * 4 ^ j) (2 ^ 1074) → Times j (sqrt x) (sqrt y)
-roots-times x y A j h v w =
+pub units-times : (x y : Float) (A j : ℕ) → 0 < A → HasValue x false A (2 ^ 1074) → HasValue y false (A * 4 ^ j) (2 ^ 1074) → Times j (sqrt x) (sqrt y)
+units-times x y A j h v w =
     let a = A * 2 ^ 1074 in
     let k = (size a + 1) / 2 - 53 in
     let q = closestRoot a k in
@@ -44,4 +44,4 @@ sqrt-times k x y p f h =
     let o = own binary64 x f (positive-finite x p) in
     let A = o .digits * 2 ^ o .place in
     let v = positive-value x A (2 ^ 1074) p (o .exact) in
-    roots-times x y A k (value-pos x A (2 ^ 1074) p (pow-pos 1074) v) v (rw four-square (times-value (k + k) x y false A (2 ^ 1074) h v))
+    units-times x y A k (value-pos x A (2 ^ 1074) p (pow-pos 1074) v) v (rw four-square (times-value (k + k) x y false A (2 ^ 1074) h v))

@@ -1,31 +1,30 @@
--- `arithmetic::sqrt::of_subnormal` meets its contract. The invariant: m is b * 2 ^ i. The measure is what m lacks to 2 ^ 52. Assumes nothing.
-use mathlib.Core.Path.{_≡_, ap, _∙_}
-use Prim.Native.Nat.{_-_, _*_, _^_, _≤_, _<_}
-use Rattle.arithmetic.specs.Sqrt.{sqrtUnits}
-use Rattle.arithmetic.proofs.SqrtPaths.{room, doubled, same-value}
+-- `arithmetic::sqrt::of_subnormal` meets its contract, by the laws of `SqrtPaths`. Assumes nothing.
+use Prim.Native.Nat.{_^_}
+use lib.Dec.{le→leb}
+use lib.Ieee.{inFloat}
+use Rattle.arithmetic.specs.Laws.Patterns.{bits-no-nan}
+use Rattle.arithmetic.proofs.SqrtPaths.{whole-no-nan, whole-normal, of-whole}
 use native.Mathlib.Omega.{arith}
 use Rattle.arithmetic.proofs.sqrt.of_subnormal.Statement.{statement}
 use Rattle.arithmetic.proofs.sqrt.of_subnormal.Tie as tie
 
-abbrev Inv-loop : tie.InvT-loop
-Inv-loop b m₀ i₀ m i = (m ≡ b * 2 ^ i) × (0 < m) × (m < 2 ^ 53) × (i ≤ 52)
+int-to-float-of-normal : tie.Need-int-to-float-of-normal
+unfolding inFloat
+int-to-float-of-normal c = le→leb (c .before .args .b) (2 ^ 53) (omega arith)
 
-abbrev μ-loop : tie.MeasureT-loop
-μ-loop b m₀ i₀ m i = 4503599627370496 - m
+float-to-bits-of-normal : tie.Need-float-to-bits-of-normal
+float-to-bits-of-normal c = whole-no-nan (c .before .args .b) (c .before .pre .0) (c .before .pre .1)
 
-loop-again : tie.Need-loop-again Inv-loop μ-loop
-loop-again c =
-    let v = c .before .loop in
-    let b = c .before .before .args .b in
-    (doubled b (v .m) (v .i) (v .inv .0), omega arith, omega arith, omega (arith, room b (v .m) (v .i) (c .before .before .pre .0) (v .inv .0) (c .loop-test .taken)))
+of-normal-requires : tie.Need-of-normal-requires
+of-normal-requires c κs = whole-normal (c .before .args .b) (c .before .pre .0) (c .before .pre .1)
 
-returns : tie.Need-returns Inv-loop μ-loop
-returns c =
-    let v = c .before .before .loop in
-    c .of-digits .ensures ∙ ap sqrtUnits (same-value (c .before .before .before .args .b) (v .m) (v .i) (v .inv .0) (v .inv .3))
+float-from-bits-result : tie.Need-float-from-bits-result
+float-from-bits-result c = bits-no-nan 0x1e60_0000_0000_0000 (omega arith)
+
+returns : tie.Need-returns
+returns c = of-whole (c .before .before .args .b) (c .before .before .pre .0) (c .before .before .pre .1) _ (c .of-normal .ensures)
 
 pub of-subnormal-spec : {M : Type 1} → statement M
 of-subnormal-spec =
     tie.close
-    (tie.spec Inv-loop μ-loop (λ c. omega arith) (λ c. omega arith) (λ c. omega arith) (λ c. omega arith) loop-again
-    (λ c. omega arith) (λ c κs. omega arith) returns)
+    (tie.spec int-to-float-of-normal float-to-bits-of-normal of-normal-requires float-from-bits-result returns)

@@ -6,8 +6,7 @@ use lib.Ieee.{Float, nan, binary64, fits, isNan, div, toBits, ofBits}
 use lib.Ieee.Bits.{ofBits-toBits, toBits-lt}
 use Rattle.arithmetic.specs.Sqrt.{sqrt}
 use Rattle.arithmetic.specs.Laws.Compare.{is-no-nan}
-use Rattle.arithmetic.proofs.SqrtPaths.{of-nan, of-zero, of-low, of-normal, of-itself, of-below}
-use native.Mathlib.Omega.{arith}
+use Rattle.arithmetic.proofs.SqrtPaths.{of-nan, of-zero, of-itself, of-below}
 use borrow.Author.Needs.{needs}
 use Rattle.arithmetic.proofs.sqrt.sqrt.Statement.{statement}
 use Rattle.arithmetic.proofs.sqrt.sqrt.Tie as tie
@@ -36,14 +35,10 @@ returns-2 c =
     sym (subst (λ (y : Float). sqrt y ≡ y) (back a) (of-zero (toBits binary64 (a .args .x)) (c .if3 .taken)))
 
 returns-3 : tie.Need-returns-3
-returns-3 c =
-    let a = c .before .before .before .before in
-    c .of-subnormal .ensures ∙ sym (of-low (toBits binary64 (a .args .x)) (omega arith) (c .before .before .if2 .taken)) ∙ ap sqrt (back a)
+returns-3 c = c .of-subnormal .ensures ∙ ap sqrt (back (c .before .before .before .before))
 
 returns-4 : tie.Need-returns-4
-returns-4 c =
-    let a = c .before .before .before .before in
-    c .of-normal .ensures ∙ sym (of-normal (toBits binary64 (a .args .x)) (c .before .before .if2 .left) (c .before .if4 .taken)) ∙ ap sqrt (back a)
+returns-4 c = c .of-normal .ensures ∙ ap sqrt (back (c .before .before .before .before))
 
 returns-5 : tie.Need-returns-5
 returns-5 c =

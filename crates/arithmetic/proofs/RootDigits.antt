@@ -1,4 +1,4 @@
--- The whole number nearest to √(w * 2 ^ 52): digit by digit, and by a test of one that is given. On plain numbers; 67108864 is 2 ^ 26. Assumes nothing.
+-- The whole number nearest to √(w * 2 ^ 52): digit by digit, and by a test of one that is given. On plain numbers; 67108864 is 2 ^ 26, 4503599627370496 is 2 ^ 52, 18014398509481984 is 2 ^ 54. Assumes nothing.
 use mathlib.Core.Path.{_≡_, sym, ap, _∙_, subst}
 use Prim.Native.Nat.{ℕ, zero, suc, _+_, _-_, _*_, _/_, _%_, _^_, _≤_, _<_}
 use native.Mathlib.Nat.{lt-of-lt-of-le, mul-assoc}
@@ -77,7 +77,7 @@ tested w q h k lo hi = let s = q / 67108864 in let d = q % 67108864 in go s d (w
     go : (s d e : ℕ) → w ≡ s * s + e → q ≡ s * 67108864 + d → (v : ℕ) → v + 2 * s * d ≡ e * 67108864 + s → d * d < v * 67108864 + d → v * 67108864 + d ≤ d * d + 2 * q → Nearest (w * 4503599627370496) q
     go s d e a b v c l u = subst (λ (z : ℕ). (z * z < w * 4503599627370496 + q) × (w * 4503599627370496 ≤ z * z + q)) (sym b) (ends ((s * 67108864 + d) * (s * 67108864 + d)) (d * d) (v * 67108864 + d) (sum s d e v a b c) l u)
 
--- what `closest` ensures
+-- what `by_digits` and `closest` ensure
 abbrev pub Closest : ℕ → ℕ → Type 0
 Closest w r = (r ≡ closestRoot (w * 2 ^ 52) 0) × (2 ^ 52 ≤ r) × (r < 2 ^ 53)
 

@@ -101,11 +101,11 @@ pattern-at b k w i r low high lo hi K e g h =
     ∙ ap sqrtUnits (ap (λ (x : ℕ). x * 4 ^ k) e ∙ mul-assoc m (2 ^ i) (4 ^ k) ∙ ap (λ (x : ℕ). m * x) (ap (λ (x : ℕ). 2 ^ i * x) (four k) ∙ pow-split i (2 * k) (1073 + b / 4503599627370496) g))
     ∙ sym (of-normal b low high)
 
+-- ---- what `of_subnormal` does: b units are b * 2 ^ -1074, so the root is √b times 2 ^ -537
 unit-root : HasValue (ofBits binary64 0x1e60_0000_0000_0000) false 1 (2 ^ 537)
 unfolding ofBits
 unit-root = (refl, refl)
 
--- ---- what `of_subnormal` does: b units are b * 2 ^ -1074, so the root is that of b times 2 ^ -537
 module _ (b : ℕ) (some : 0 < b) (few : b < 4503599627370496) where
   abbrev y : Float
   y = ofInt binary64 (pos b)

@@ -1,4 +1,4 @@
--- Facts about the definitions that the layers above cite.
+-- Facts about the definitions, which the proofs here and the layers above cite.
 pub mod Numbers
 pub mod Ratio
 pub mod Times

@@ -122,7 +122,7 @@ fn is_ordinary(x: f64) -> bool
     (x < ORDINARY) & (-ORDINARY < x)
 }
 
-// Where this holds, the k that SHIFT gives is the k of `general`.
+// Of an ordinary x: where this holds, the k that SHIFT gives is the k of `general`.
 fn is_near(x: f64) -> bool
     ensures { λ r. ⌜ r ≡ near x ⌝ }
 {

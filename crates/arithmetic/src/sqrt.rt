@@ -1,14 +1,14 @@
 // The square root of an f64, rounded to the nearest f64: an estimate in floats, or one next to it, where a test on
 // integers finds it right; else digit by digit.
 ghost use mathlib.Core.Path.{_≡_};
-ghost use Prim.Native.Nat.{_+_, _*_, _/_, _%_, _^_, _≤_, _<_};
+ghost use Prim.Native.Nat.{_+_, _*_, _^_, _≤_, _<_};
 ghost use lib.Dec.{T};
 ghost use lib.Ieee.{binary64, ofBits};
 ghost use Rattle.arithmetic.specs.Sqrt.{closestRoot, sqrt};
 use super::root_table;
 
-// Whether q is the whole number nearest to √(w * 2^52): true only if it is, and nearly always if it is. With s and d the
-// upper and the lower digits of q, and v = (w - s²) * 2^26 + s - 2sd, w * 2^52 - q² + q = v * 2^26 + d - d².
+// Whether q is the whole number nearest to √(w * 2^52): true only if it is, and nearly always if it is. With d the lower
+// 26 binary digits of q, s those above, and v = (w - s²) * 2^26 + s - 2sd, w * 2^52 - q² + q = v * 2^26 + d - d².
 fn is_closest(w: u64, q: u64) -> bool
     requires { ⌜ (2 ^ 52 ≤ w) × (w + 1 < 2 ^ 54) ⌝ }
     ensures { λ r. ⌜ (T r → (q ≡ closestRoot (w * 2 ^ 52) 0) × (2 ^ 52 ≤ q) × (q < 2 ^ 53)) ⌝ }

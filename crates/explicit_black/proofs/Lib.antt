@@ -1,2 +1,2 @@
 -- What only the proofs of this crate cite: the steps of a quote.
-pub mod Paying
+pub mod Limits

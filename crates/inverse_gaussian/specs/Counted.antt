@@ -42,12 +42,12 @@ abbrev pub allSome : {R : Type 0} → Metered R → Metered (Option R)
 allSome m = mapped (λ r. some r) m
 
 -- r, which takes k evaluations, where n are allowed
-unfoldable pub pay : {R : Type 0} → R → ℕ → ℕ → Metered R
-pay r zero n = have r n
-pay r (suc k) zero = spent
-pay r (suc k) (suc n) = pay r k n
+unfoldable pub allow : {R : Type 0} → R → ℕ → ℕ → Metered R
+allow r zero n = have r n
+allow r (suc k) zero = spent
+allow r (suc k) (suc n) = allow r k n
 
 -- n allowed: the result, with n - count left, if the count is at most n
 unfoldable pub limited : {R : Type 0} → ℕ → Counted R → Metered R
-unfolding pay
-limited n c = pay (c .result) (c .count) n
+unfolding allow
+limited n c = allow (c .result) (c .count) n

@@ -5,7 +5,7 @@ use Prim.Native.Nat.{ℕ, zero, suc, _+_, _-_, _≤_, _<_, zero-le, suc-le-suc}
 use lib.Ieee.{Float}
 use native.Mathlib.Nat.{zero-add, suc-add}
 use native.Mathlib.Omega.{arith}
-use Rattle.inverse_gaussian.specs.Counted.{some, Counted, atOnce, tick, then, someOf, Metered, have, spent, allSome, pay, limited}
+use Rattle.inverse_gaussian.specs.Counted.{some, Counted, atOnce, tick, then, someOf, Metered, have, spent, allSome, allow, limited}
 use Rattle.inverse_gaussian.specs.Loops.{Next, go, stop, Loop, step, iterate, Ends}
 
 -- ---- what is allowed
@@ -23,20 +23,20 @@ unfolding limited
 limited-tick n c = refl
 
 -- an evaluation with none allowed, and with some
-pub unpaid : {R : Type 0} (n : ℕ) (w : R) → n ≡ 0 → spent ≡ limited n (tick (atOnce w))
-unpaid n w e = rw e (sym (limited-none (atOnce w)))
+pub tick-none : {R : Type 0} (n : ℕ) (w : R) → n ≡ 0 → spent ≡ limited n (tick (atOnce w))
+tick-none n w e = rw e (sym (limited-none (atOnce w)))
 
-pub paid : {R : Type 0} (n : ℕ) (v w : R) → (n ≡ 0 → ⊥) → v ≡ w → have v (n - 1) ≡ limited n (tick (atOnce w))
+pub tick-some : {R : Type 0} (n : ℕ) (v w : R) → (n ≡ 0 → ⊥) → v ≡ w → have v (n - 1) ≡ limited n (tick (atOnce w))
 unfolding limited
-paid zero v w h e = absurd (h refl)
-paid (suc n) v w h e = let d : suc n - 1 ≡ n = omega arith in rw (d, e)
+tick-some zero v w h e = absurd (h refl)
+tick-some (suc n) v w h e = let d : suc n - 1 ≡ n = omega arith in rw (d, e)
 
--- what the general statement says: with enough allowed the result and what is left; with too few, nothing
+-- with enough allowed, the result and what is left
 pub limited-enough : {R : Type 0} (n : ℕ) (c : Counted R) → c .count ≤ n → limited n c ≡ have (c .result) (n - c .count)
 unfolding limited
 limited-enough {R = R} n c h = go (c .result) (c .count) n h
   where
-    go : (r : R) (k n : ℕ) → k ≤ n → pay r k n ≡ have r (n - k)
+    go : (r : R) (k n : ℕ) → k ≤ n → allow r k n ≡ have r (n - k)
     go r zero n h = ap (have r) (omega arith)
     go r (suc k) zero h = absurd (omega arith)
     go r (suc k) (suc n) h = let d : suc n - suc k ≡ n - k = omega arith in go r k n (omega arith) ∙ ap (have r) (sym d)
@@ -53,7 +53,7 @@ limited-then {Q = Q} n c f = go (c .count) n
     q : Counted Q
     q = f (c .result)
 
-    go : (k n : ℕ) → pay (q .result) (k + q .count) n ≡ onward (pay (c .result) k n) (λ r m. pay (f r .result) (f r .count) m)
+    go : (k n : ℕ) → allow (q .result) (k + q .count) n ≡ onward (allow (c .result) k n) (λ r m. allow (f r .result) (f r .count) m)
     go zero n = rw zero-add
     go (suc k) zero = rw suc-add
     go (suc k) (suc n) = rw suc-add (go k n)
@@ -69,7 +69,7 @@ pub limited-some : {R : Type 0} (n : ℕ) (c : Counted R) → limited n (someOf 
 unfolding limited
 limited-some {R = R} n c = go (c .result) (c .count) n
   where
-    go : (r : R) (k n : ℕ) → pay (some r) k n ≡ allSome (pay r k n)
+    go : (r : R) (k n : ℕ) → allow (some r) k n ≡ allSome (allow r k n)
     go r zero n = refl
     go r (suc k) zero = refl
     go r (suc k) (suc n) = go r k n

@@ -1,4 +1,4 @@
--- Definitions: counted results and loops, then the searches in the order of the source's file; and laws about them.
+-- Definitions: counted results and loops, curves and brackets, then the searches; and laws about them.
 pub mod Counted
 pub mod Loops
 pub mod Curves

@@ -16,7 +16,7 @@ use Rattle.inverse_gaussian.specs.declared.counted.Quantile.the-variants
 use Rattle.inverse_gaussian.specs.declared.newton.Newton.{Newton}
 use Rattle.inverse_gaussian.specs.declared.newton.Newton.the-variants.{Move, Refused}
 use Rattle.inverse_gaussian.specs.declared.newton.Stepped.{Stepped}
-use Rattle.inverse_gaussian.specs.declared.newton.Stepped.the-variants.{Root as Settled, None as Failed, Again as Onward}
+use Rattle.inverse_gaussian.specs.declared.newton.Stepped.the-variants.{Root as StepRoot, None as Failed, Again as Onward}
 use Rattle.inverse_gaussian.specs.declared.quantile.Rounded.{Rounded}
 use Rattle.inverse_gaussian.specs.declared.quantile.Rounded.the-variants.{Root as Last, Again}
 use Rattle.inverse_gaussian.specs.declared.survival.Doubling.{Doubling}
@@ -62,7 +62,7 @@ newton Refused = none
 
 -- after a Newton step
 abbrev pub stepped : Stepped → Next (Float × Float) (Option Float)
-stepped (Settled x) = stop (some x)
+stepped (StepRoot x) = stop (some x)
 stepped Failed = stop none
 stepped (Onward x direction) = go (x, direction)
 

@@ -85,7 +85,8 @@ impl Point {
         Evaluation::Value(value, allowed - 1)
     }
 
-    // exp(-a² / 2) with the square taken first, which is another number only where it underflows.
+    // exp(-a² / 2) with the square taken first. The two arguments can differ only where a product underflows or
+    // overflows.
     fn exponential_of_square(self) -> f64
         requires { ⌜ self ≡ pointAt (self .x) (self .mu) ⌝ }
         ensures { λ r. ⌜ r ≡ exp (neg half ⊗ (self .a ⊗ self .a)) ⌝ }

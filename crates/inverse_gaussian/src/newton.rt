@@ -76,6 +76,7 @@ fn is_converged(dx: f64, x: f64) -> bool
     abs(dx) / x <= ACTUAR_RELATIVE_QUANTILE_TOLERANCE
 }
 
+// x is the point after the move dx: no root where it is not finite and above 0, the root where the move was small.
 fn after_move(x: f64, dx: f64, direction: f64, mu: f64) -> Stepped
     ensures { λ r. ⌜ stepped r ≡ afterMove mu x dx direction ⌝ }
 {

@@ -1,4 +1,4 @@
--- `arithmetic::sqrt::sqrt` meets its contract: a law of `SqrtPaths` for each path of the code. Assumes nothing.
+-- `arithmetic::sqrt::sqrt` meets its contract: a law of `SqrtPaths`, or the contract of the function called, for each path. Assumes nothing.
 use mathlib.Core.Path.{_≡_, refl, sym, ap, _∙_, subst}
 use mathlib.Core.Bool.{Bool, not}
 use lib.Dec.{T}

@@ -1,5 +1,5 @@
 -- `from_call_price` meets its contract: each return by the tests that led there. Assumes nothing.
-use Rattle.explicit_black.proofs.Paying.{limited-searched}
+use Rattle.explicit_black.proofs.Limits.{limited-searched}
 use Rattle.explicit_black.specs.Quote.{fromCallPrice}
 use Rattle.inverse_gaussian.specs.Counted.{limited}
 use lib.Ieee.{nanBits}

@@ -1,6 +1,6 @@
 -- `implied_black_volatility_input` meets its contract: the reply of a quote that is allowed as many evaluations as any can make. Assumes nothing.
 use Rattle.explicit_black.specs.LawsQuote.{input-count}
-use Rattle.explicit_black.proofs.Paying.{enough-within}
+use Rattle.explicit_black.proofs.Limits.{enough-within}
 use Rattle.explicit_black.specs.Quote.{impliedBlackVolatilityInput}
 use Rattle.explicit_black.proofs.quote.implied_black_volatility_input.Statement.{statement}
 use Rattle.explicit_black.proofs.quote.implied_black_volatility_input.Tie as tie

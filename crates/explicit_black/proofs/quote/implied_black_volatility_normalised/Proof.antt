@@ -1,6 +1,6 @@
 -- `implied_black_volatility_normalised` meets its contract: the reply of a quote that is allowed as many evaluations as any can make. Assumes nothing.
 use Rattle.explicit_black.specs.LawsQuote.{normalised-count}
-use Rattle.explicit_black.proofs.Paying.{enough-within, root-one}
+use Rattle.explicit_black.proofs.Limits.{enough-within, root-one}
 use Rattle.arithmetic.specs.Laws.Numbers.{denied, affirmed}
 use Rattle.explicit_black.specs.Quote.{impliedBlackVolatilityNormalised}
 use Rattle.explicit_black.proofs.quote.implied_black_volatility_normalised.Statement.{

@@ -1,5 +1,5 @@
 -- `Solved::reply` meets its contract: the count is what was taken off. Assumes nothing.
-use Rattle.explicit_black.proofs.Paying.{answers, refuses}
+use Rattle.explicit_black.proofs.Limits.{answers, refuses}
 use Rattle.explicit_black.specs.Replies.{solved, Within}
 use mathlib.Core.Path.{sym, ap, _∙_, subst}
 use borrow.Author.Needs.{needs}

@@ -1,18 +1,18 @@
 -- `inverse_gaussian::curves::Point::cdf` meets its contract. Assumes nothing.
 use mathlib.Core.Path.{ap}
 use Rattle.inverse_gaussian.specs.Curves.{inverseGaussianCdf}
-use Rattle.inverse_gaussian.specs.LawsCounted.{paid, unpaid}
+use Rattle.inverse_gaussian.specs.LawsCounted.{tick-some, tick-none}
 use borrow.Author.Needs.{needs}
 use Rattle.inverse_gaussian.proofs.curves.Point.cdf.Statement.{statement}
 use Rattle.inverse_gaussian.proofs.curves.Point.cdf.Tie as tie
 
 returns : tie.Need-returns
-returns c = unpaid _ _ (c .if1 .taken)
+returns c = tick-none _ _ (c .if1 .taken)
 
 returns-2 : tie.Need-returns-2
 unfolding inverseGaussianCdf
 returns-2 c = let e = c .before .before .before .before .before .pre in
-    paid _ _ _ (c .before .before .before .before .if1 .left)
+    tick-some _ _ _ (c .before .before .before .before .if1 .left)
     (rw (c .erfcx-cody .ensures, c .before .before .norm-cdf .ensures, ap (λ p. p .a) e, ap (λ p. p .leading) e, ap (λ p. p .«inv_sqrt_x») e, ap (λ p. p .exponential) e))
 
 pub cdf-spec : {M : Type 1} → statement M

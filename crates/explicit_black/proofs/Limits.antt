@@ -5,7 +5,7 @@ use native.Mathlib.Omega.{arith}
 use lib.Ieee.{Float, ofBits}
 use Rattle.arithmetic.specs.Operations.{one}
 use Rattle.arithmetic.specs.Sqrt.{sqrt}
-use Rattle.inverse_gaussian.specs.Counted.{Option, Counted, Metered, have, mapped, pay, limited}
+use Rattle.inverse_gaussian.specs.Counted.{Option, Counted, Metered, have, mapped, allow, limited}
 use Rattle.inverse_gaussian.specs.LawsCounted.{limited-enough}
 use Rattle.explicit_black.specs.Quote.{Outcome, total, refused, answer, refusal, volatility, reply, searched, totalAt}
 use Rattle.explicit_black.specs.Replies.{Within}
@@ -15,7 +15,7 @@ pub taken-off : {R : Type 0} (n left : ℕ) (r : R) (c : Counted R) → have r l
 unfolding limited
 taken-off {R = R} n left r c e = go (c .count) n e
   where
-    go : (k n : ℕ) → have r left ≡ pay (c .result) k n → (c .result ≡ r) × (left + k ≡ n)
+    go : (k n : ℕ) → have r left ≡ allow (c .result) k n → (c .result ≡ r) × (left + k ≡ n)
     go zero n e = (cc, let h : left ≡ n = cc in omega arith)
     go (suc k) zero e = let z : _≡_ {A = ℕ} 0 1 = cc in absurd (omega arith)
     go (suc k) (suc n) e = let q = go k n e in (q .0, omega arith)
@@ -25,7 +25,7 @@ pub limited-searched : (n : ℕ) (c : Counted (Option Float)) → limited n (sea
 unfolding limited
 limited-searched n c = go (c .result) (c .count) n
   where
-    go : (r : Option Float) (k n : ℕ) → pay (totalAt r) k n ≡ mapped totalAt (pay r k n)
+    go : (r : Option Float) (k n : ℕ) → allow (totalAt r) k n ≡ mapped totalAt (allow r k n)
     go r zero n = refl
     go r (suc k) zero = refl
     go r (suc k) (suc n) = go r k n

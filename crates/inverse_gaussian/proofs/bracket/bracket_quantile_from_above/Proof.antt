@@ -4,8 +4,7 @@
 use borrow.Author.Needs.{needs}
 use mathlib.Core.Path.{sym, ap, _∙_}
 use Rattle.inverse_gaussian.specs.Counted.{limited}
-use Rattle.inverse_gaussian.specs.Bracket.{halvings}
-use Rattle.inverse_gaussian.specs.Bracket.{halving, bracketQuantileFromAbove}
+use Rattle.inverse_gaussian.specs.Bracket.{halvings, halving, bracketQuantileFromAbove}
 use Rattle.inverse_gaussian.specs.Meanings.{evaluated, widening}
 use Rattle.inverse_gaussian.specs.LawsCounted.{Carried, carried, carried-at, carried-turn, carried-spent, carried-stop, fewer}
 use Rattle.inverse_gaussian.proofs.Halving.{ends-above}

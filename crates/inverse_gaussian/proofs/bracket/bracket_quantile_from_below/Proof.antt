@@ -5,8 +5,7 @@ use borrow.Author.Needs.{needs}
 use mathlib.Core.Path.{sym, ap, _∙_}
 use Rattle.inverse_gaussian.specs.Counted.{limited}
 use Rattle.inverse_gaussian.specs.Loops.{go}
-use Rattle.inverse_gaussian.specs.Bracket.{doublings}
-use Rattle.inverse_gaussian.specs.Bracket.{doubling, bracketQuantileFromBelow}
+use Rattle.inverse_gaussian.specs.Bracket.{doublings, doubling, bracketQuantileFromBelow}
 use Rattle.inverse_gaussian.specs.Meanings.{evaluated, widening}
 use Rattle.inverse_gaussian.specs.LawsCounted.{Carried, carried, carried-turn, carried-spent, carried-stop, fewer}
 use Rattle.inverse_gaussian.proofs.Doubling.{ends-below}

@@ -1,2 +1,9 @@
--- What only the proofs of this crate cite: the steps of a quote.
+-- What only the proofs of this crate cite: the loops' endings, the steps of the searches, and those of a quote.
+pub mod Scaling
+pub mod Doubling
+pub mod Halving
+pub mod Searches
+pub mod Points
+pub mod Starts
+pub mod Runs
 pub mod Limits

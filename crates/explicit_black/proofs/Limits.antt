@@ -5,8 +5,8 @@ use native.Mathlib.Omega.{arith}
 use lib.Ieee.{Float, ofBits}
 use Rattle.arithmetic.specs.Operations.{one}
 use Rattle.arithmetic.specs.Sqrt.{sqrt}
-use Rattle.inverse_gaussian.specs.Counted.{Option, Counted, Metered, have, mapped, allow, limited}
-use Rattle.inverse_gaussian.specs.LawsCounted.{limited-enough}
+use Rattle.explicit_black.specs.Counted.{Option, Counted, Metered, have, mapped, allow, limited}
+use Rattle.explicit_black.specs.LawsCounted.{limited-enough}
 use Rattle.explicit_black.specs.Quote.{Outcome, total, refused, answer, refusal, volatility, reply, searched, totalAt}
 use Rattle.explicit_black.specs.Replies.{Within}
 

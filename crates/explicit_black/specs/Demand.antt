@@ -9,7 +9,7 @@ use lib.Ieee.Scale.{finite}
 use lib.Ieee.Positive.{num, den}
 use Rattle.arithmetic.specs.Operations.{nought, minPositive}
 use Rattle.arithmetic.specs.Basic.{minus?}
-use Rattle.inverse_gaussian.specs.Counted.{Counted}
+use Rattle.explicit_black.specs.Counted.{Counted}
 use Rattle.explicit_black.specs.Quote.{Outcome, total, refused, Reply, answer, refusal}
 
 -- 4 ^ n as a fraction

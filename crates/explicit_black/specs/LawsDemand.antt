@@ -25,7 +25,7 @@ use Rattle.arithmetic.specs.Laws.Halves.{Ordinary, plus, num-above}
 use Rattle.arithmetic.specs.Laws.SqrtBounds.{roots-ordinary, roots-times}
 use Rattle.bs_option_price.specs.BsOptionPrice.{negativeAbsLogMoneyness}
 use Rattle.bs_option_price.specs.LawsMoneyness.{Pair, log-times, log-swap}
-use Rattle.inverse_gaussian.specs.Counted.{Counted, atOnce}
+use Rattle.explicit_black.specs.Counted.{Counted, atOnce}
 use Rattle.explicit_black.specs.Quote.{Outcome, refused, firstRefusal, priced, inputOutcome, impliedBlackVolatilityInput}
 use Rattle.explicit_black.specs.Demand.{Exactly, Fair, Timed, compared}
 use Rattle.explicit_black.specs.LawsSteps.{Plain, priced-times}

@@ -12,12 +12,12 @@ use Rattle.arithmetic.specs.Basic.{abs}
 use Rattle.arithmetic.specs.Sqrt.{sqrt}
 use Rattle.arithmetic.specs.Exp.{exp}
 use Rattle.arithmetic.specs.Laws.Quotients.{at-least-no-nan}
-use Rattle.inverse_gaussian.specs.Counted.{Option, some, none, Counted, atOnce}
-use Rattle.inverse_gaussian.specs.Curves.{proper}
-use Rattle.inverse_gaussian.specs.Quantile.{inverseGaussianQuantile}
-use Rattle.inverse_gaussian.specs.Survival.{inverseGaussianQuantileFromSurvival}
-use Rattle.inverse_gaussian.specs.LawsCounts.{quantile-count, from-survival-count}
-use Rattle.inverse_gaussian.specs.LawsRoots.{proper-positive, quantile-fits, from-survival-fits}
+use Rattle.explicit_black.specs.Counted.{Option, some, none, Counted, atOnce}
+use Rattle.explicit_black.specs.Curves.{proper}
+use Rattle.explicit_black.specs.Quantile.{inverseGaussianQuantile}
+use Rattle.explicit_black.specs.Survival.{inverseGaussianQuantileFromSurvival}
+use Rattle.explicit_black.specs.LawsCounts.{quantile-count, from-survival-count}
+use Rattle.explicit_black.specs.LawsRoots.{proper-positive, quantile-fits, from-survival-fits}
 use Rattle.explicit_black.specs.Quote.{Outcome, total, refused, impliedNormalisedVolatilityAtm, atTheMoney, totalAt, searched, fromCallPrice, normalisedOutcome, normalisedTimeValue, valued, priced}
 
 pub data Kind (c : Counted Outcome) : Type 0 where

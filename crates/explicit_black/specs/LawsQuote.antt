@@ -20,7 +20,7 @@ use Rattle.arithmetic.specs.Laws.Halves.{Ordinary}
 use Rattle.arithmetic.specs.Laws.SqrtBounds.{sqrt-positive}
 use Rattle.arithmetic.specs.Laws.Quotients.{div-no-nan, two-over-root}
 use Rattle.bs_option_price.specs.BsOptionPrice.{negativeAbsLogMoneyness}
-use Rattle.inverse_gaussian.specs.Counted.{Counted, atOnce}
+use Rattle.explicit_black.specs.Counted.{Counted, atOnce}
 use Rattle.explicit_black.specs.Quote.{Outcome, total, refused, Reply, answer, refusal, reply, replyOf, volatility, normalisedOutcome, impliedBlackVolatilityNormalised, firstRefusal, intrinsicValue, priceBound, normalisedTimeValue, valued, priced, inputOutcome, impliedBlackVolatilityInput}
 use Rattle.explicit_black.specs.Demand.{compared}
 use Rattle.explicit_black.specs.LawsKinds.{Kind, value, number, root, no-root, normalised-kind, priced-kind}

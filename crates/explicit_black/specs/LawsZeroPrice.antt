@@ -20,7 +20,7 @@ use Rattle.arithmetic.specs.Laws.Compare.{lt-is, eq-is}
 use Rattle.arithmetic.specs.Laws.Sums.{add-is}
 use Rattle.arithmetic.specs.Laws.Products.{div-is}
 use Rattle.arithmetic.specs.Laws.Halves.{Ordinary, plus, num-above, positive-zero}
-use Rattle.inverse_gaussian.specs.Counted.{atOnce}
+use Rattle.explicit_black.specs.Counted.{atOnce}
 use Rattle.explicit_black.specs.Quote.{total, valued, priced}
 use Rattle.explicit_black.specs.LawsSteps.{lt-plus}
 

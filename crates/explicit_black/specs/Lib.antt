@@ -1,7 +1,19 @@
--- Definitions: the entries, and what demand 3 says of them; and laws about them.
+-- Definitions: counted results and loops, curves and brackets, the searches, the entries, and what demand 3 says of them; and laws about them.
+pub mod Counted
+pub mod Loops
+pub mod Curves
+pub mod Points
+pub mod Bracket
+pub mod Newton
+pub mod Quantile
+pub mod Survival
+pub mod Meanings
 pub mod Quote
 pub mod Replies
 pub mod Demand
+pub mod LawsCounted
+pub mod LawsCounts
+pub mod LawsRoots
 pub mod LawsKinds
 pub mod LawsQuote
 pub mod LawsSteps

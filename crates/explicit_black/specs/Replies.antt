@@ -6,7 +6,7 @@ use Rattle.explicit_black.specs.declared.quote.Solved.{Solved}
 use Rattle.explicit_black.specs.declared.quote.Solved.the-variants.{Total, Refused, Spent}
 use Rattle.explicit_black.specs.declared.quote.Reply.{Reply as Handed}
 use Rattle.explicit_black.specs.declared.quote.Reply.the-variants.{Answer, Refusal}
-use Rattle.inverse_gaussian.specs.Counted.{Counted, Metered, have, spent, limited}
+use Rattle.explicit_black.specs.Counted.{Counted, Metered, have, spent, limited}
 use Rattle.explicit_black.specs.Quote.{Outcome, total, refused, Reply, answer, refusal, reply}
 
 -- document 01's number and values for each case of an entry's answer

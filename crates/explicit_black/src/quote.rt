@@ -1,14 +1,14 @@
 // The entries: the total volatility and the volatility of a price, or the number of a refusal.
+use crate::counted::Quantile;
+use crate::curves::is_proper;
+use crate::quantile::inverse_gaussian_quantile;
+use crate::survival::inverse_gaussian_quantile_from_survival;
 use arithmetic::basic::abs;
 use arithmetic::basic::is_finite;
 use arithmetic::basic::max;
 use arithmetic::exp::exp;
 use arithmetic::sqrt::sqrt;
 use bs_option_price::negative_abs_log_moneyness;
-use inverse_gaussian::counted::Quantile;
-use inverse_gaussian::curves::is_proper;
-use inverse_gaussian::quantile::inverse_gaussian_quantile;
-use inverse_gaussian::survival::inverse_gaussian_quantile_from_survival;
 use special_function::constants::MIN_POSITIVE;
 use special_function::error_function::erfinv;
 ghost use mathlib.Core.Path.{_≡_};
@@ -18,8 +18,8 @@ ghost use Rattle.arithmetic.specs.Basic.{isFinite};
 ghost use Rattle.arithmetic.specs.Operations.{_⊗_, nought};
 ghost use Rattle.arithmetic.specs.Sqrt.{sqrt};
 ghost use Rattle.bs_option_price.specs.BsOptionPrice.{negativeAbsLogMoneyness};
-ghost use Rattle.inverse_gaussian.specs.Counted.{atOnce, mapped, limited};
-ghost use Rattle.inverse_gaussian.specs.Meanings.{quantile};
+ghost use Rattle.explicit_black.specs.Counted.{atOnce, mapped, limited};
+ghost use Rattle.explicit_black.specs.Meanings.{quantile};
 ghost use Rattle.explicit_black.specs.Quote.{impliedNormalisedVolatilityAtm, atTheMoney, totalAt, fromCallPrice, normalisedOutcome, impliedBlackVolatilityNormalised, firstRefusal, intrinsicValue, priceBound, normalisedTimeValue, valued, priced, inputOutcome, impliedBlackVolatilityInput, volatility};
 ghost use Rattle.explicit_black.specs.Replies.{replied, solved, Within, RepliesTo};
 

@@ -2,7 +2,7 @@
 use Prim.Native.Nat.{ℕ}
 use lib.Ieee.{Float}
 use Rattle.arithmetic.specs.Operations.{nought}
-use Rattle.inverse_gaussian.specs.Counted.{Metered, have, spent}
+use Rattle.explicit_black.specs.Counted.{Metered, have, spent}
 use Rattle.explicit_black.specs.Quote.{Reply, answer, refusal}
 use Rattle.xdr_sheet.specs.Sheet.{Size, quotes, refused, Quoted, quoted, noQuote}
 use Rattle.xdr_sheet.specs.declared.text.Placed.{Placed}

@@ -1,6 +1,6 @@
 // The functions of the layers for C and Rust, on numbers and bytes.
+use explicit_black::counted::Evaluation;
 use explicit_black::quote::Reply;
-use inverse_gaussian::counted::Evaluation;
 use xdr_sheet::printing::Progress;
 use xdr_sheet::sheet::Asked;
 use xdr_sheet::sheet::Size;
@@ -15,8 +15,8 @@ ghost use Rattle.special_function.specs.ErrorFunction.{erfCody, erfcCody, erfcx
 ghost use Rattle.special_function.specs.Erfinv.{erfinv};
 ghost use Rattle.special_function.specs.NormalDistribution.{normPdf, normCdf, inverseNormCdf};
 ghost use Rattle.bs_option_price.specs.BsOptionPrice.{normalisedBlack, negativeAbsLogMoneyness};
-ghost use Rattle.inverse_gaussian.specs.Curves.{inverseGaussianCdf, inverseGaussianSurvival};
-ghost use Rattle.inverse_gaussian.specs.Meanings.{evaluated};
+ghost use Rattle.explicit_black.specs.Curves.{inverseGaussianCdf, inverseGaussianSurvival};
+ghost use Rattle.explicit_black.specs.Meanings.{evaluated};
 ghost use Rattle.explicit_black.specs.Quote.{impliedBlackVolatilityNormalised, impliedBlackVolatilityInput};
 ghost use Rattle.explicit_black.specs.Replies.{replied};
 ghost use Rattle.xdr_sheet.specs.Sheet.{size, quotedAt};
@@ -145,14 +145,14 @@ fn value(evaluation: Evaluation) -> f64
 pub extern "C" fn quoter_inverse_gaussian_cdf(x: f64, mu: f64) -> f64
     ensures { λ r. ⌜ r ≡ inverseGaussianCdf x mu ⌝ }
 {
-    value(inverse_gaussian::curves::inverse_gaussian_cdf(x, mu, 1))
+    value(explicit_black::curves::inverse_gaussian_cdf(x, mu, 1))
 }
 
 #[no_mangle]
 pub extern "C" fn quoter_inverse_gaussian_survival(x: f64, mu: f64) -> f64
     ensures { λ r. ⌜ r ≡ inverseGaussianSurvival x mu ⌝ }
 {
-    value(inverse_gaussian::curves::inverse_gaussian_survival(x, mu, 1))
+    value(explicit_black::curves::inverse_gaussian_survival(x, mu, 1))
 }
 
 // Writes a reply to the caller's places; a refusal writes no figure.

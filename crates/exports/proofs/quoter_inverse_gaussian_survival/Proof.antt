@@ -1,6 +1,6 @@
 -- One evaluation is allowed, so its value is there. Assumes nothing.
 use mathlib.Core.Path.{ap, _∙_}
-use Rattle.inverse_gaussian.specs.Counted.{limited}
+use Rattle.explicit_black.specs.Counted.{limited}
 use Rattle.exports.specs.Handed.{valueOf}
 use Rattle.exports.proofs.quoter_inverse_gaussian_survival.Statement.{statement}
 use Rattle.exports.proofs.quoter_inverse_gaussian_survival.Tie as tie

@@ -1,7 +1,7 @@
 -- `from_call_price` meets its contract: each return by the tests that led there. Assumes nothing.
 use Rattle.explicit_black.proofs.Limits.{limited-searched}
 use Rattle.explicit_black.specs.Quote.{fromCallPrice}
-use Rattle.inverse_gaussian.specs.Counted.{limited}
+use Rattle.explicit_black.specs.Counted.{limited}
 use lib.Ieee.{nanBits}
 use Rattle.explicit_black.proofs.quote.from_call_price.Statement.{statement}
 use Rattle.explicit_black.proofs.quote.from_call_price.Tie as tie

@@ -1,6 +1,6 @@
 -- `input_outcome` meets its contract: each return by the tests that led there. Assumes nothing.
 use Rattle.explicit_black.specs.Quote.{inputOutcome}
-use Rattle.inverse_gaussian.specs.Counted.{limited}
+use Rattle.explicit_black.specs.Counted.{limited}
 use borrow.Author.Tests.{eq-eqb, ne-eqb}
 use Rattle.explicit_black.proofs.quote.input_outcome.Statement.{statement}
 use Rattle.explicit_black.proofs.quote.input_outcome.Tie as tie

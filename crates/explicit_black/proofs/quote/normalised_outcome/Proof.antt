@@ -1,6 +1,6 @@
 -- `normalised_outcome` meets its contract: each return by the tests that led there. Assumes nothing.
 use Rattle.explicit_black.specs.Quote.{normalisedOutcome}
-use Rattle.inverse_gaussian.specs.Counted.{limited}
+use Rattle.explicit_black.specs.Counted.{limited}
 use lib.Ieee.{nanBits}
 use Rattle.explicit_black.proofs.quote.normalised_outcome.Statement.{statement}
 use Rattle.explicit_black.proofs.quote.normalised_outcome.Tie as tie

@@ -1,6 +1,6 @@
 -- `priced` meets its contract: each return by the tests that led there. Assumes nothing.
 use Rattle.explicit_black.specs.Quote.{priced}
-use Rattle.inverse_gaussian.specs.Counted.{limited}
+use Rattle.explicit_black.specs.Counted.{limited}
 use lib.Ieee.{nanBits}
 use Rattle.explicit_black.proofs.quote.priced.Statement.{statement}
 use Rattle.explicit_black.proofs.quote.priced.Tie as tie

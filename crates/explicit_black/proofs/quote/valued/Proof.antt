@@ -1,6 +1,6 @@
 -- `valued` meets its contract: each return by the tests that led there. Assumes nothing.
 use Rattle.explicit_black.specs.Quote.{valued}
-use Rattle.inverse_gaussian.specs.Counted.{limited}
+use Rattle.explicit_black.specs.Counted.{limited}
 use Rattle.explicit_black.proofs.quote.valued.Statement.{statement}
 use Rattle.explicit_black.proofs.quote.valued.Tie as tie
 

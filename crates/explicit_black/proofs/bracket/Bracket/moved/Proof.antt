@@ -1,0 +1,23 @@
+-- `bracket::Bracket::moved` meets its contract. Assumes nothing.
+use Rattle.explicit_black.specs.Quantile.{moved}
+use borrow.Author.Needs.{needs}
+use Rattle.explicit_black.proofs.bracket.Bracket.moved.Statement.{statement}
+use Rattle.explicit_black.proofs.bracket.Bracket.moved.Tie as tie
+
+returns : tie.Need-returns
+unfolding moved
+returns c = rw (c .before .before .before .before .step .given .1, ← c .before .before .abs .ensures, ← c .before .max .ensures, c .if1 .taken)
+
+returns-2 : tie.Need-returns-2
+unfolding moved
+returns-2 c = rw (c .onward .ensures, c .before .before .before .before .before .before .step .given .1, ← c .before .before .before .before .abs .ensures, ← c .before .before .before .max .ensures, c .before .before .if1 .left, c .before .chosen .ensures)
+
+returns-3 : tie.Need-returns-3
+unfolding moved
+returns-3 c = rw (c .onward2 .ensures, c .before .before .enum-told .given .1, c .before .bracket-midpoint .ensures)
+
+pub moved-spec : {M : Type 1} → statement M
+moved-spec =
+    tie.close
+    (tie.spec (λ c. search needs) (λ c κs. tt) (λ c κs. tt) returns (λ c κs. tt) (λ c κs. tt) (λ c. search needs)
+    (λ c κs. tt) (λ c κs. tt) returns-2 returns-3)

@@ -1,0 +1,202 @@
+// The bracket of a root, how it is found from a starting point, and how it is narrowed.
+use crate::counted::Bracketed;
+use crate::counted::Evaluation;
+use crate::curves::inverse_gaussian_cdf;
+use arithmetic::basic::is_finite;
+use arithmetic::exp::exp;
+use arithmetic::ln::ln;
+use special_function::constants::MAX;
+use special_function::constants::MIN_POSITIVE;
+ghost use mathlib.Core.Path.{_≡_};
+ghost use mathlib.Core.Bool.{true};
+ghost use Rattle.explicit_black.specs.Counted.{limited};
+ghost use Rattle.explicit_black.specs.Meanings.{bracketed, widening};
+ghost use Rattle.explicit_black.specs.Curves.{proper};
+ghost use Rattle.explicit_black.specs.Bracket.{bracketMidpoint, bracketIsTight, doubled, doubledFrom, widened, bracketQuantileFromBelow, halved, lowered, bracketQuantileFromAbove, narrowed, inside, chosen};
+
+// 32 times f64::EPSILON
+pub(crate) const QUANTILE_BRACKET_TOLERANCE: f64 = 7.105427357601002e-15;
+
+pub struct Bracket {
+    pub lower: f64,
+    pub upper: f64,
+}
+
+// What a value at the new bound leads to: the search for a bracket stops, or a wider one is to be
+// tried.
+pub enum Widening {
+    Reached(Bracket),
+    Wider(Bracket),
+}
+
+// Twice x, or the largest finite value where that is not finite.
+fn doubled(x: f64) -> f64
+    ensures { λ r. ⌜ r ≡ doubled x ⌝ }
+{
+    let next = x * 2.0;
+    if is_finite(next) { next } else { MAX }
+}
+
+impl Bracket {
+    // From x to its double.
+    pub fn doubled_from(x: f64) -> Bracket
+        ensures { λ r. ⌜ r ≡ doubledFrom x ⌝ }
+    {
+        Bracket {
+            lower: x,
+            upper: doubled(x),
+        }
+    }
+
+    // What is next where the distribution is `cdf` at the upper bound.
+    pub fn widened(self, cdf: f64, probability: f64) -> Widening
+        ensures { λ r. ⌜ widening r ≡ widened probability self cdf ⌝ }
+    {
+        if cdf >= probability {
+            return Widening::Reached(self);
+        }
+        if self.upper == MAX {
+            return Widening::Reached(self);
+        }
+        Widening::Wider(Bracket::doubled_from(self.upper))
+    }
+
+    // From half of x to upper: to be tried, unless that half is too small.
+    pub fn halved(x: f64, upper: f64) -> Widening
+        ensures { λ r. ⌜ widening r ≡ halved x upper ⌝ }
+    {
+        let next = x * 0.5;
+        if next <= MIN_POSITIVE {
+            return Widening::Reached(Bracket {
+                lower: 0.0,
+                upper: upper,
+            });
+        }
+        Widening::Wider(Bracket {
+            lower: next,
+            upper: upper,
+        })
+    }
+
+    // What is next where the distribution is `cdf` at the lower bound.
+    pub fn lowered(self, cdf: f64, probability: f64) -> Widening
+        ensures { λ r. ⌜ widening r ≡ lowered probability self cdf ⌝ }
+    {
+        if cdf <= probability {
+            return Widening::Reached(self);
+        }
+        Bracket::halved(self.lower, self.lower * 2.0)
+    }
+
+    // The same bracket with one bound moved to x.
+    pub fn narrowed(self, x: f64, root_is_above: bool) -> Bracket
+        ensures { λ r. ⌜ r ≡ narrowed self x «root_is_above» ⌝ }
+    {
+        if root_is_above {
+            Bracket {
+                lower: x,
+                upper: self.upper,
+            }
+        } else {
+            Bracket {
+                lower: self.lower,
+                upper: x,
+            }
+        }
+    }
+
+    // Whether x is finite and lies strictly between the bounds.
+    fn holds(self, x: f64) -> bool
+        ensures { λ r. ⌜ r ≡ inside self x ⌝ }
+    {
+        if is_finite(x) {
+            if x > self.lower {
+                x < self.upper
+            } else {
+                false
+            }
+        } else {
+            false
+        }
+    }
+
+    // The next point if the bracket holds it, and else the midpoint.
+    pub fn chosen(self, next: f64) -> f64
+        ensures { λ r. ⌜ r ≡ chosen self next ⌝ }
+    {
+        if self.holds(next) {
+            next
+        } else {
+            bracket_midpoint(self)
+        }
+    }
+}
+
+pub(crate) fn bracket_quantile_from_below(
+    initial: f64,
+    mu: f64,
+    probability: f64,
+    allowed: u64,
+) -> Bracketed
+    requires { ⌜ proper initial ≡ true ⌝ }
+    ensures { λ r. ⌜ bracketed r ≡ limited allowed (bracketQuantileFromBelow initial mu probability) ⌝ }
+{
+    let mut bracket = Bracket::doubled_from(initial);
+    let mut left = allowed;
+    loop {
+        match inverse_gaussian_cdf(bracket.upper, mu, left) {
+            Evaluation::Spent => return Bracketed::Spent,
+            Evaluation::Value(cdf, rest) => {
+                left = rest;
+                match bracket.widened(cdf, probability) {
+                    Widening::Reached(b) => return Bracketed::Found(b, left),
+                    Widening::Wider(b) => bracket = b,
+                }
+            }
+        }
+    }
+}
+
+pub(crate) fn bracket_quantile_from_above(
+    initial: f64,
+    mu: f64,
+    probability: f64,
+    allowed: u64,
+) -> Bracketed
+    requires { ⌜ proper initial ≡ true ⌝ }
+    ensures { λ r. ⌜ bracketed r ≡ limited allowed (bracketQuantileFromAbove initial mu probability) ⌝ }
+{
+    let mut trial = Bracket::halved(initial, initial);
+    let mut left = allowed;
+    loop {
+        match trial {
+            Widening::Reached(b) => return Bracketed::Found(b, left),
+            Widening::Wider(b) => match inverse_gaussian_cdf(b.lower, mu, left) {
+                Evaluation::Spent => return Bracketed::Spent,
+                Evaluation::Value(cdf, rest) => {
+                    left = rest;
+                    trial = b.lowered(cdf, probability);
+                }
+            },
+        }
+    }
+}
+
+// The geometric mean, or half of the upper bound where the lower is 0.
+pub fn bracket_midpoint(bracket: Bracket) -> f64
+    ensures { λ r. ⌜ r ≡ bracketMidpoint bracket ⌝ }
+{
+    if bracket.lower <= 0.0 {
+        return 0.5 * bracket.upper;
+    }
+    exp(0.5 * (ln(bracket.lower) + ln(bracket.upper)))
+}
+
+pub fn bracket_is_tight(bracket: Bracket) -> bool
+    ensures { λ r. ⌜ r ≡ bracketIsTight bracket ⌝ }
+{
+    if bracket.lower <= 0.0 {
+        return bracket.upper <= MIN_POSITIVE;
+    }
+    bracket.upper / bracket.lower - 1.0 <= QUANTILE_BRACKET_TOLERANCE
+}

@@ -1,0 +1,222 @@
+// The quantile by Newton steps on the standardised variable x / mu.
+use crate::counted::Evaluation;
+use crate::counted::Quantile;
+use crate::curves::Point;
+use crate::curves::inverse_gaussian_quantile_initial_guess;
+use crate::curves::is_proper;
+use arithmetic::basic::abs;
+use arithmetic::basic::max;
+use arithmetic::basic::recip;
+use arithmetic::basic::signum;
+use arithmetic::exp::exp;
+use arithmetic::ln::ln;
+use arithmetic::ln::ln_1p;
+use arithmetic::sqrt::sqrt;
+use special_function::constants::MIN_POSITIVE;
+use special_function::normal_distribution::inverse_norm_cdf;
+ghost use mathlib.Core.Path.{_≡_};
+ghost use Rattle.explicit_black.specs.Counted.{limited, have};
+ghost use Rattle.explicit_black.specs.Meanings.{newton, stepped, quantile};
+ghost use Rattle.explicit_black.specs.Newton.{seed, start, steps, inverseGaussianQuantileActuar, inverseGaussianModeStandardized, numerator, nrstep, converged, afterMove, first, later, last};
+
+const ACTUAR_RELATIVE_QUANTILE_TOLERANCE: f64 = 1.0e-14;
+
+const LARGE_KAPPA_THRESHOLD: f64 = 1.0e3;
+
+const LEFT_SMALL_PROBABILITY_LOG_THRESHOLD: f64 = -11.51;
+
+const RIGHT_SMALL_PROBABILITY_LOG_THRESHOLD: f64 = -1.0e-5;
+
+// A Newton step: a move, perhaps infinite, or the refusal to move.
+pub enum Newton {
+    Move(f64),
+    Refused,
+}
+
+// What a step leads to: the root, none, or the next point with the direction of the first move.
+pub enum Stepped {
+    Root(f64),
+    None,
+    Again(f64, f64),
+}
+
+fn seed(probability: f64, log_probability: f64, mu: f64) -> f64
+    ensures { λ r. ⌜ r ≡ seed probability «log_probability» mu ⌝ }
+{
+    if log_probability < LEFT_SMALL_PROBABILITY_LOG_THRESHOLD {
+        let z = inverse_norm_cdf(probability);
+        return 1.0 / (mu * z * z);
+    }
+    let mode = inverse_gaussian_mode_standardized(mu);
+    if log_probability > RIGHT_SMALL_PROBABILITY_LOG_THRESHOLD {
+        return max(
+            inverse_gaussian_quantile_initial_guess(probability, mu) / mu,
+            mode,
+        );
+    }
+    mode
+}
+
+// The seed; where that is not finite and above 0 the mode, or the smallest normal value if that is
+// larger.
+fn start(probability: f64, log_probability: f64, mu: f64) -> f64
+    ensures { λ r. ⌜ r ≡ start probability «log_probability» mu ⌝ }
+{
+    let x = seed(probability, log_probability, mu);
+    if is_proper(x) {
+        return x;
+    }
+    max(inverse_gaussian_mode_standardized(mu), MIN_POSITIVE)
+}
+
+// A relative tolerance: an absolute one would accept a first step far from a small root.
+fn is_converged(dx: f64, x: f64) -> bool
+    ensures { λ r. ⌜ r ≡ converged dx x ⌝ }
+{
+    abs(dx) / x <= ACTUAR_RELATIVE_QUANTILE_TOLERANCE
+}
+
+// x is the point after the move dx: no root where it is not finite and above 0, the root where the move was small.
+fn after_move(x: f64, dx: f64, direction: f64, mu: f64) -> Stepped
+    ensures { λ r. ⌜ stepped r ≡ afterMove mu x dx direction ⌝ }
+{
+    if is_proper(x) {
+        if is_converged(dx, x) {
+            return Stepped::Root(x * mu);
+        }
+        return Stepped::Again(x, direction);
+    }
+    Stepped::None
+}
+
+impl Newton {
+    // After the first step, from x.
+    pub fn first(self, x: f64, mu: f64) -> Stepped
+        ensures { λ r. ⌜ stepped r ≡ first mu x (newton self) ⌝ }
+    {
+        match self {
+            Newton::Move(dx) => after_move(x + dx, dx, signum(dx), mu),
+            Newton::Refused => Stepped::None,
+        }
+    }
+
+    // After a later step, from x: one against the first direction ends the search.
+    pub fn later(self, x: f64, direction: f64, mu: f64) -> Stepped
+        ensures { λ r. ⌜ stepped r ≡ later mu x direction (newton self) ⌝ }
+    {
+        match self {
+            Newton::Move(dx) => {
+                if dx * direction < 0.0 {
+                    return Stepped::Root(x * mu);
+                }
+                after_move(x + dx, dx, direction, mu)
+            }
+            Newton::Refused => Stepped::None,
+        }
+    }
+}
+
+impl Stepped {
+    // The outcome where no step is left.
+    pub fn last(self, mu: f64, left: u64) -> Quantile
+        ensures { λ r. ⌜ quantile r ≡ have (last mu (stepped self)) left ⌝ }
+    {
+        match self {
+            Stepped::Root(root) => Quantile::Root(root, left),
+            Stepped::None => Quantile::None(left),
+            Stepped::Again(x, _) => Quantile::Root(x * mu, left),
+        }
+    }
+}
+
+// The steps after the first.
+fn steps(begin: Stepped, probability: f64, log_probability: f64, mu: f64, allowed: u64) -> Quantile
+    ensures { λ r. ⌜ quantile r ≡ limited allowed (steps probability «log_probability» mu (stepped begin)) ⌝ }
+{
+    let mut left = allowed;
+    let mut next = begin;
+    for _ in 1u32..100 {
+        match next {
+            Stepped::Root(root) => return Quantile::Root(root, left),
+            Stepped::None => return Quantile::None(left),
+            Stepped::Again(x, direction) => {
+                let point = Point::at(x * mu, mu);
+                match point.cdf(left) {
+                    Evaluation::Spent => return Quantile::Spent,
+                    Evaluation::Value(cdf, rest) => {
+                        left = rest;
+                        let step = inverse_gaussian_nrstep_standardized(
+                            mu * point.pdf(),
+                            cdf,
+                            probability,
+                            log_probability,
+                        );
+                        next = step.later(x, direction, mu);
+                    }
+                }
+            }
+        }
+    }
+    next.last(mu, left)
+}
+
+pub fn inverse_gaussian_quantile_actuar(probability: f64, mu: f64, allowed: u64) -> Quantile
+    ensures { λ r. ⌜ quantile r ≡ limited allowed (inverseGaussianQuantileActuar probability mu) ⌝ }
+{
+    let log_probability = ln(probability);
+    let x = start(probability, log_probability, mu);
+    let point = Point::at(x * mu, mu);
+    match point.cdf(allowed) {
+        Evaluation::Spent => Quantile::Spent,
+        Evaluation::Value(cdf, left) => {
+            let step = inverse_gaussian_nrstep_standardized(
+                mu * point.pdf(),
+                cdf,
+                probability,
+                log_probability,
+            );
+            steps(step.first(x, mu), probability, log_probability, mu, left)
+        }
+    }
+}
+
+pub fn inverse_gaussian_mode_standardized(phi: f64) -> f64
+    ensures { λ r. ⌜ r ≡ inverseGaussianModeStandardized phi ⌝ }
+{
+    let kappa = 1.5 * phi;
+    if kappa <= LARGE_KAPPA_THRESHOLD {
+        // the conjugate form: sqrt(1 + kappa^2) - kappa would lose digits
+        return recip(sqrt(1.0 + kappa * kappa) + kappa);
+    }
+    let reciprocal = 0.5 / kappa;
+    reciprocal * (1.0 - reciprocal * reciprocal)
+}
+
+fn numerator(cdf: f64, probability: f64, log_probability: f64) -> f64
+    ensures { λ r. ⌜ r ≡ numerator cdf probability «log_probability» ⌝ }
+{
+    if cdf > 0.0 {
+        let delta_log_probability = log_probability - ln(cdf);
+        if abs(delta_log_probability) < 1.0e-5 {
+            return delta_log_probability
+                * exp(log_probability + ln_1p(-0.5 * delta_log_probability));
+        }
+        return probability - cdf;
+    }
+    probability
+}
+
+// The step where the distribution is `cdf` and the density `pdf`.
+pub fn inverse_gaussian_nrstep_standardized(
+    pdf: f64,
+    cdf: f64,
+    probability: f64,
+    log_probability: f64,
+) -> Newton
+    ensures { λ r. ⌜ newton r ≡ nrstep pdf cdf probability «log_probability» ⌝ }
+{
+    if is_proper(pdf) {
+        return Newton::Move(numerator(cdf, probability, log_probability) / pdf);
+    }
+    Newton::Refused
+}

@@ -1,0 +1,220 @@
+// The quantile of a probability: Newton steps, and where they give none a search in a bracket.
+use crate::bracket::Bracket;
+use crate::bracket::QUANTILE_BRACKET_TOLERANCE;
+use crate::bracket::bracket_is_tight;
+use crate::bracket::bracket_midpoint;
+use crate::bracket::bracket_quantile_from_above;
+use crate::bracket::bracket_quantile_from_below;
+use crate::counted::Bracketed;
+use crate::counted::Evaluation;
+use crate::counted::Quantile;
+use crate::counted::Rooted;
+use crate::curves::Point;
+use crate::curves::inverse_gaussian_cdf;
+use crate::curves::inverse_gaussian_quantile_initial_guess;
+use crate::curves::is_proper;
+use crate::curves::starting_point;
+use crate::newton::Newton;
+use crate::newton::inverse_gaussian_quantile_actuar;
+use arithmetic::basic::abs;
+use arithmetic::basic::max;
+use special_function::constants::MIN_POSITIVE;
+ghost use mathlib.Core.Path.{_≡_};
+ghost use mathlib.Core.Bool.{true};
+ghost use Rattle.explicit_black.specs.Counted.{limited, mapped};
+ghost use Rattle.explicit_black.specs.Curves.{proper};
+ghost use Rattle.explicit_black.specs.Meanings.{bracketed, rooted, quantile, newton, rounded};
+ghost use Rattle.explicit_black.specs.Points.{pointAt};
+ghost use Rattle.explicit_black.specs.Quantile.{solvable, filtered, inverseGaussianQuantile, bracketAt, floor, raised, clamped, newtonStep, onward, moved, round, rounds, inverseGaussianQuantileBracketed};
+
+// What a round leads to: the root, or a narrower bracket with the next point.
+pub enum Rounded {
+    Root(f64),
+    Again(Bracket, f64),
+}
+
+// Whether there is a quantile to look for: the probability strictly between 0 and 1, mu finite and above 0.
+pub fn is_solvable(probability: f64, mu: f64) -> bool
+    ensures { λ r. ⌜ r ≡ solvable probability mu ⌝ }
+{
+    if probability > 0.0 {
+        if probability < 1.0 {
+            is_proper(mu)
+        } else {
+            false
+        }
+    } else {
+        false
+    }
+}
+
+impl Quantile {
+    // A root that is not finite and above 0 is none.
+    pub fn filtered(self) -> Quantile
+        ensures { λ r. ⌜ quantile r ≡ mapped filtered (quantile self) ⌝ }
+    {
+        match self {
+            Quantile::Root(root, left) => {
+                if is_proper(root) {
+                    return Quantile::Root(root, left);
+                }
+                Quantile::None(left)
+            }
+            Quantile::None(left) => Quantile::None(left),
+            Quantile::Spent => Quantile::Spent,
+        }
+    }
+}
+
+pub fn inverse_gaussian_quantile(probability: f64, mu: f64, allowed: u64) -> Quantile
+    ensures { λ r. ⌜ quantile r ≡ limited allowed (inverseGaussianQuantile probability mu) ⌝ }
+{
+    if !is_solvable(probability, mu) {
+        return Quantile::None(allowed);
+    }
+    match inverse_gaussian_quantile_actuar(probability, mu, allowed).filtered() {
+        Quantile::Root(root, left) => Quantile::Root(root, left),
+        Quantile::None(left) => {
+            let rooted = inverse_gaussian_quantile_bracketed(probability, mu, left);
+            rooted.quantile()
+        }
+        Quantile::Spent => Quantile::Spent,
+    }
+}
+
+// The bracket on the side that the value at x points to.
+fn bracket_at(x: f64, cdf: f64, mu: f64, probability: f64, allowed: u64) -> Bracketed
+    requires { ⌜ proper x ≡ true ⌝ }
+    ensures { λ r. ⌜ bracketed r ≡ limited allowed (bracketAt x cdf mu probability) ⌝ }
+{
+    if cdf < probability {
+        bracket_quantile_from_below(x, mu, probability, allowed)
+    } else {
+        bracket_quantile_from_above(x, mu, probability, allowed)
+    }
+}
+
+// The Newton step from the point, where the distribution is off by `error`.
+fn newton_step(point: Point, error: f64) -> Newton
+    requires { ⌜ point ≡ pointAt (point .x) (point .mu) ⌝ }
+    ensures { λ r. ⌜ newton r ≡ newtonStep (point .x) error (point .mu) ⌝ }
+{
+    let pdf = point.pdf();
+    if is_proper(pdf) {
+        return Newton::Move(error / pdf);
+    }
+    Newton::Refused
+}
+
+impl Bracket {
+    fn floor(self) -> f64
+        ensures { λ r. ⌜ r ≡ floor self ⌝ }
+    {
+        if self.lower > 0.0 {
+            self.lower
+        } else {
+            MIN_POSITIVE
+        }
+    }
+
+    fn raised(self, x: f64) -> f64
+        ensures { λ r. ⌜ r ≡ raised self x ⌝ }
+    {
+        let floor = self.floor();
+        if x < floor { floor } else { x }
+    }
+
+    // x brought into the bracket: the lower bound is applied, then the upper.
+    pub fn clamped(self, x: f64) -> f64
+        ensures { λ r. ⌜ r ≡ clamped self x ⌝ }
+    {
+        let raised = self.raised(x);
+        if raised > self.upper {
+            self.upper
+        } else {
+            raised
+        }
+    }
+
+    // On to the next point, unless that is x again.
+    fn onward(self, x: f64, next: f64) -> Rounded
+        ensures { λ r. ⌜ rounded r ≡ onward self x next ⌝ }
+    {
+        if next == x {
+            return Rounded::Root(bracket_midpoint(self));
+        }
+        Rounded::Again(self, next)
+    }
+
+    // A small step is the end; any other is taken if it stays inside the bracket.
+    fn moved(self, x: f64, step: Newton) -> Rounded
+        ensures { λ r. ⌜ rounded r ≡ moved self x (newton step) ⌝ }
+    {
+        match step {
+            Newton::Move(dx) => {
+                let next = x - dx;
+                if abs(dx) <= QUANTILE_BRACKET_TOLERANCE * max(x, 1.0) {
+                    return Rounded::Root(next);
+                }
+                self.onward(x, self.chosen(next))
+            }
+            Newton::Refused => self.onward(x, bracket_midpoint(self)),
+        }
+    }
+
+    // One round, where the distribution is `cdf` at the point.
+    pub(crate) fn round(self, point: Point, cdf: f64, probability: f64) -> Rounded
+        requires { ⌜ point ≡ pointAt (point .x) (point .mu) ⌝ }
+        ensures { λ r. ⌜ rounded r ≡ round (point .mu) probability (self, point .x) cdf ⌝ }
+    {
+        let x = point.x;
+        let error = cdf - probability;
+        if error == 0.0 {
+            return Rounded::Root(x);
+        }
+        let bracket = self.narrowed(x, error <= 0.0);
+        if bracket_is_tight(bracket) {
+            return Rounded::Root(bracket_midpoint(bracket));
+        }
+        bracket.moved(x, newton_step(point, error))
+    }
+}
+
+fn rounds(start: Bracket, guess: f64, mu: f64, probability: f64, allowed: u64) -> Rooted
+    ensures { λ r. ⌜ rooted r ≡ limited allowed (rounds mu probability start guess) ⌝ }
+{
+    let mut bracket = start;
+    let mut x = guess;
+    let mut left = allowed;
+    for _ in 0u32..64 {
+        let point = Point::at(x, mu);
+        match point.cdf(left) {
+            Evaluation::Spent => return Rooted::Spent,
+            Evaluation::Value(cdf, rest) => {
+                left = rest;
+                match bracket.round(point, cdf, probability) {
+                    Rounded::Root(root) => return Rooted::Root(root, left),
+                    Rounded::Again(b, next) => {
+                        bracket = b;
+                        x = next;
+                    }
+                }
+            }
+        }
+    }
+    Rooted::Root(bracket_midpoint(bracket), left)
+}
+
+pub(crate) fn inverse_gaussian_quantile_bracketed(probability: f64, mu: f64, allowed: u64) -> Rooted
+    requires { ⌜ proper mu ≡ true ⌝ }
+    ensures { λ r. ⌜ rooted r ≡ limited allowed (inverseGaussianQuantileBracketed probability mu) ⌝ }
+{
+    let x = starting_point(inverse_gaussian_quantile_initial_guess(probability, mu), mu);
+    let Evaluation::Value(cdf, left) = inverse_gaussian_cdf(x, mu, allowed) else {
+        return Rooted::Spent;
+    };
+    let Bracketed::Found(bracket, rest) = bracket_at(x, cdf, mu, probability, left) else {
+        return Rooted::Spent;
+    };
+    rounds(bracket, bracket.clamped(x), mu, probability, rest)
+}

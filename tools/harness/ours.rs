@@ -55,32 +55,34 @@ fn layer2(function: u32, a: f64) -> f64 {
 #[cfg(layer4)]
 mod layer4 {
     use crate::Reply;
-    use ours::inverse_gaussian::counted::{Evaluation, Quantile};
-    use ours::inverse_gaussian::{curves, quantile, survival};
+    use ours::explicit_black::counted::Quantile;
+    use ours::explicit_black::curves::{Allowance, Evaluation};
+    use ours::explicit_black::{curves, quantile, survival};
 
     const ALLOWED: u64 = 2263;
 
     fn evaluation(result: Evaluation) -> Reply {
         match result {
-            Evaluation::Value(value, _) => Reply::value(value),
+            Evaluation::Value { value, .. } => Reply::value(value),
             Evaluation::Spent => Reply::Spent,
         }
     }
 
     fn root(result: Quantile) -> Reply {
         match result {
-            Quantile::Root(root, left) => Reply::root(root, ALLOWED - left),
-            Quantile::None(left) => Reply::NoRoot { count: ALLOWED - left },
+            Quantile::Root(root, left) => Reply::root(root, ALLOWED - left.left()),
+            Quantile::None(left) => Reply::NoRoot { count: ALLOWED - left.left() },
             Quantile::Spent => Reply::Spent,
         }
     }
 
     pub fn reply(function: u32, a: f64, b: f64) -> Reply {
+        let allowed = Allowance::new(ALLOWED);
         match function {
-            20 => evaluation(curves::inverse_gaussian_cdf(a, b, ALLOWED)),
-            21 => evaluation(curves::inverse_gaussian_survival(a, b, ALLOWED)),
-            22 => root(quantile::inverse_gaussian_quantile(a, b, ALLOWED)),
-            _ => root(survival::inverse_gaussian_quantile_from_survival(a, b, ALLOWED)),
+            20 => evaluation(curves::inverse_gaussian_cdf(a, b, allowed)),
+            21 => evaluation(curves::inverse_gaussian_survival(a, b, allowed)),
+            22 => root(quantile::inverse_gaussian_quantile(a, b, allowed)),
+            _ => root(survival::inverse_gaussian_quantile_from_survival(a, b, allowed)),
         }
     }
 }

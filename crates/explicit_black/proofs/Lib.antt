@@ -3,7 +3,6 @@ pub mod Scaling
 pub mod Doubling
 pub mod Halving
 pub mod Searches
-pub mod Points
 pub mod Starts
 pub mod Runs
 pub mod Limits

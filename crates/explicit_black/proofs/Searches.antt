@@ -1,20 +1,20 @@
 -- How the searches go on from one part to the next, whatever is allowed, and where they start. Assumes nothing.
 use mathlib.Core.Path.{_≡_, refl, sym, ap, subst, _∙_}
-use Prim.Native.Nat.{ℕ, zero}
+use Prim.Native.Nat.{ℕ, zero, suc}
 use mathlib.Core.Bool.{Bool, true, false, cond, _&&_}
 use lib.Dec.{T}
 use lib.Ieee.{Float, neg, lt}
-use Rattle.arithmetic.specs.Operations.{nought}
+use Rattle.arithmetic.specs.Operations.{_⊗_, nought}
 use Rattle.arithmetic.specs.Ln.{ln}
 use Rattle.special_function.specs.NormalDistribution.{inverseNormCdf}
 use Rattle.explicit_black.specs.declared.bracket.Bracket.{Bracket}
-use Rattle.explicit_black.specs.Counted.{Option, some, none, atOnce, tick, then, Metered, have, spent, mapped, allSome, limited}
+use Rattle.explicit_black.specs.Counted.{Option, some, none, Counted, Sample, sample, atOnce, tick, then, someOf, orElse, Metered, have, spent, mapped, allSome, limited}
 use Rattle.explicit_black.specs.Loops.{Next, go, stop}
-use Rattle.explicit_black.specs.Curves.{proper, inverseGaussianCdf, inverseGaussianSurvival, inverseGaussianQuantileInitialGuess, inverseGaussianQuantileInitialGuessFromZ, startingPoint}
-use Rattle.explicit_black.specs.Newton.{newtoning, last, start, first, steps, inverseGaussianCdfStandardized, inverseGaussianNrstepStandardized, inverseGaussianQuantileActuar}
-use Rattle.explicit_black.specs.Quantile.{bracketAt, clamped, rounds, inverseGaussianQuantileBracketed, solvable, filtered, orElse, inverseGaussianQuantile}
-use Rattle.explicit_black.specs.Survival.{survivalBracketAt, survivalRounds, survivalRoundsIn, survivalSearch, inverseGaussianQuantileFromSurvival}
-use Rattle.explicit_black.specs.LawsCounted.{Left, left-stop, left-out, onward, limited-now, limited-none, limited-tick, limited-then, limited-some, then-spent, then-have, value-of, none-of}
+use Rattle.explicit_black.specs.Curves.{proper, inverseGaussianCdf, inverseGaussianPdf, inverseGaussianSurvival, inverseGaussianQuantileInitialGuess, inverseGaussianQuantileInitialGuessFromZ, startingPoint}
+use Rattle.explicit_black.specs.Newton.{newtoning, last, start, first, later, steps, numerator, nrstep, inverseGaussianCdfStandardized, inverseGaussianQuantileActuar}
+use Rattle.explicit_black.specs.Quantile.{bracketAt, clamped, round, rounding, rounds, inverseGaussianQuantileBracketed, solvable, filtered, inverseGaussianQuantile}
+use Rattle.explicit_black.specs.Survival.{survivalBracketAt, survivalRound, survivalRounding, survivalRounds, survivalRoundsIn, survivalSearch, inverseGaussianQuantileFromSurvival}
+use Rattle.explicit_black.specs.LawsCounted.{Left, left-turn, left-stop, left-out, onward, limited-now, limited-none, limited-tick, limited-then, limited-some, then-spent, then-have, then-some, some-spent, spent-of, have-of, value-of, none-of}
 
 -- ---- the starting point is finite and above 0
 
@@ -34,43 +34,70 @@ solvable-proper p mu e = third (lt nought p) (lt p _) (proper mu) e
     third true false c e = absurd (subst T (sym e) tt)
     third false b c e = absurd (subst T (sym e) tt)
 
--- ---- `inverse_gaussian_quantile_actuar`
-
 pub left-last : (p lp mu : Float) {k : ℕ} {a : Metered (Option Float)} {n : ℕ} (x : Next (Float × Float) (Option Float)) → Left (newtoning p lp mu) k a n x → k ≡ zero → have (last mu x) n ≡ a
 left-last p lp mu (go s) i e = sym (left-out i e)
 left-last p lp mu (stop t) i e = sym (left-stop i)
 
-pub no-step : (p mu w : Float) (n : ℕ) → spent ≡ limited n (tick (atOnce w)) → spent ≡ limited n (inverseGaussianQuantileActuar p mu)
-unfolding inverseGaussianQuantileActuar
-no-step p mu w n e = rw (none-of n w e) (sym (limited-none _))
+-- ---- one turn of a loop that uses the density, from the contracts of an evaluation and of what is made of it
 
-pub from-step : (p lp mu x : Float) (n m : ℕ) (v : Float) (t : Option Float) (s : Next (Float × Float) (Option Float)) (q : Metered (Option Float)) → lp ≡ ln p → x ≡ start p lp mu
-    → have v m ≡ limited n (tick (atOnce (inverseGaussianCdfStandardized x mu))) → t ≡ inverseGaussianNrstepStandardized x v p lp mu → s ≡ first mu x t
+module _ {k j n m : ℕ} {v d : Float} where
+  pub step-turn : (p lp mu x direction w : Float) (t : Option Float) {a : Metered (Option Float)} {y : Next (Float × Float) (Option Float)} → Left (newtoning p lp mu) k a n (go (x, direction)) → k ≡ suc j
+      → have (sample v d) m ≡ limited n (tick (atOnce (sample (inverseGaussianCdfStandardized x mu) (inverseGaussianPdf (x ⊗ mu) mu))))
+      → w ≡ numerator v p lp → t ≡ nrstep (mu ⊗ d) w → y ≡ later mu x direction t → Left (newtoning p lp mu) j a m y
+  step-turn p lp mu x direction w t i f e g h q =
+      left-turn _ (λ pdf. later mu x direction (nrstep (mu ⊗ pdf) (numerator v p lp))) i f e refl (rw (← g, ← h) (sym q))
+
+  pub round-turn : (mu p : Float) (b : Bracket) (x : Float) {a : Metered Float} {y r : Next (Bracket × Float) Float} → Left (rounding mu p) k a n (go (b, x)) → k ≡ suc j
+      → have (sample v d) m ≡ limited n (tick (atOnce (sample (inverseGaussianCdf x mu) (inverseGaussianPdf x mu)))) → r ≡ round d p (b, x) v → r ≡ y → Left (rounding mu p) j a m y
+  round-turn mu p b x i f e g h = left-turn _ (λ pdf. round pdf p (b, x) v) i f e refl (sym g ∙ h)
+
+  pub survival-round-turn : (mu p : Float) (b : Bracket) (x : Float) {a : Metered Float} {y r : Next (Bracket × Float) Float} → Left (survivalRounding mu p) k a n (go (b, x)) → k ≡ suc j
+      → have (sample v d) m ≡ limited n (tick (atOnce (sample (inverseGaussianSurvival x mu) (inverseGaussianPdf x mu)))) → r ≡ survivalRound d p (b, x) v → r ≡ y → Left (survivalRounding mu p) j a m y
+  survival-round-turn mu p b x i f e g h = left-turn _ (λ pdf. survivalRound pdf p (b, x) v) i f e refl (sym g ∙ h)
+
+-- ---- `inverse_gaussian_quantile_actuar`
+
+pub no-step : (p mu : Float) (w : Sample) (n : ℕ) → spent ≡ limited n (tick (atOnce w)) → spent ≡ limited n (inverseGaussianQuantileActuar p mu)
+unfolding inverseGaussianQuantileActuar
+no-step p mu w n e = rw (none-of w e) (sym (limited-none _))
+
+pub from-step : (p lp mu x : Float) (n m : ℕ) (v d w : Float) (t : Option Float) (s : Next (Float × Float) (Option Float)) (q : Metered (Option Float)) → lp ≡ ln p → x ≡ start p lp mu
+    → have (sample v d) m ≡ limited n (tick (atOnce (sample (inverseGaussianCdfStandardized x mu) (inverseGaussianPdf (x ⊗ mu) mu)))) → w ≡ numerator v p lp → t ≡ nrstep (mu ⊗ d) w → s ≡ first mu x t
     → q ≡ limited m (steps p lp mu s) → q ≡ limited n (inverseGaussianQuantileActuar p mu)
 unfolding inverseGaussianQuantileActuar
-from-step p lp mu x n m v t s q l e f d g h =
-    let o = value-of n m v (inverseGaussianCdfStandardized x mu) f in
-    rw (← l, ← e, o .0, o .1, ← d, ← g) (h ∙ sym (limited-tick m (steps p lp mu s)))
+from-step p lp mu x n m v d w t s q l e f u k g h =
+    let o = value-of f in
+    let a : inverseGaussianCdfStandardized x mu ≡ v = cc in
+    let b : inverseGaussianPdf (x ⊗ mu) mu ≡ d = cc in
+    rw (← l, ← e, a, b, o .1, ← u, ← k, ← g) (h ∙ sym (limited-tick m (steps p lp mu s)))
 
 -- ---- `inverse_gaussian_quantile_bracketed`
 
-pub no-guess : (p mu w : Float) (n : ℕ) → spent ≡ limited n (tick (atOnce w)) → spent ≡ limited n (inverseGaussianQuantileBracketed p mu)
-unfolding inverseGaussianQuantileBracketed
-no-guess p mu w n e = rw (none-of n w e) (sym (limited-none _))
+module _ (p mu : Float) where
+  -- the bracket and the rounds, from the value v at x
+  abbrev searchFrom : Float → Float → Counted Float
+  searchFrom x v = then (bracketAt x v mu p) (λ b. rounds mu p b (clamped b x))
 
-pub from-guess : (p mu g x : Float) (n m : ℕ) (v : Float) (q : Metered Float) → g ≡ inverseGaussianQuantileInitialGuess p mu → x ≡ startingPoint g mu → have v m ≡ limited n (tick (atOnce (inverseGaussianCdf x mu)))
-    → q ≡ limited m (then (bracketAt x v mu p) (λ b. rounds mu p b (clamped b x))) → q ≡ limited n (inverseGaussianQuantileBracketed p mu)
-unfolding inverseGaussianQuantileBracketed
-from-guess p mu g x n m v q d s e h =
-    let o = value-of n m v (inverseGaussianCdf x mu) e in
-    rw (← d, ← s, o .0, o .1) (h ∙ sym (limited-tick m _))
+  pub no-guess : (w : Sample) (n : ℕ) → spent ≡ limited n (tick (atOnce w)) → spent ≡ limited n (someOf (inverseGaussianQuantileBracketed p mu))
+  unfolding inverseGaussianQuantileBracketed
+  no-guess w n e = some-spent n _ (rw (none-of w e) (sym (limited-none _)))
 
-pub no-bracket : (p mu x : Float) (n : ℕ) (v : Float) → spent ≡ limited n (bracketAt x v mu p) → spent ≡ limited n (then (bracketAt x v mu p) (λ b. rounds mu p b (clamped b x)))
-no-bracket p mu x n v e = then-spent n _ (λ b. rounds mu p b (clamped b x)) e
+  pub from-guess : (g x : Float) (n m : ℕ) (v d : Float) (q : Metered (Option Float)) → g ≡ inverseGaussianQuantileInitialGuess p mu → x ≡ startingPoint g mu
+      → have (sample v d) m ≡ limited n (tick (atOnce (sample (inverseGaussianCdf x mu) (inverseGaussianPdf x mu))))
+      → q ≡ limited m (someOf (searchFrom x v)) → q ≡ limited n (someOf (inverseGaussianQuantileBracketed p mu))
+  unfolding inverseGaussianQuantileBracketed
+  from-guess g x n m v d q f s e h =
+      let o = value-of e in
+      let a : inverseGaussianCdf x mu ≡ v = cc in
+      rw (← f, ← s, a, o .1) (h ∙ sym (limited-tick m _))
 
-pub from-bracket : (p mu x : Float) (n m : ℕ) (v : Float) (b : Bracket) (y : Float) (q : Metered Float) → have b m ≡ limited n (bracketAt x v mu p) → y ≡ clamped b x
-    → q ≡ limited m (rounds mu p b y) → q ≡ limited n (then (bracketAt x v mu p) (λ b. rounds mu p b (clamped b x)))
-from-bracket p mu x n m v b y q e d h = then-have n m _ (λ b. rounds mu p b (clamped b x)) b q e (h ∙ ap (λ (y : Float). limited m (rounds mu p b y)) d)
+  pub no-bracket : (x : Float) (n : ℕ) (v : Float) → spent ≡ limited n (someOf (bracketAt x v mu p)) → spent ≡ limited n (someOf (searchFrom x v))
+  no-bracket x n v e = some-spent n _ (then-spent n _ (λ b. rounds mu p b (clamped b x)) (spent-of n _ e))
+
+  pub from-bracket : (x : Float) (n m : ℕ) (v : Float) (b : Bracket) (y : Float) (q : Metered (Option Float)) → have (some b) m ≡ limited n (someOf (bracketAt x v mu p)) → y ≡ clamped b x
+      → q ≡ limited m (someOf (rounds mu p b y)) → q ≡ limited n (someOf (searchFrom x v))
+  from-bracket x n m v b y q e d h =
+      then-some n m (bracketAt x v mu p) (λ b. rounds mu p b (clamped b x)) b q (have-of n m _ b e) (h ∙ ap (λ (y : Float). limited m (someOf (rounds mu p b y))) d)
 
 -- ---- `inverse_gaussian_quantile`
 
@@ -100,9 +127,9 @@ module _ (p mu : Float) (n : ℕ) (a : Metered (Option Float)) (s : solvable p m
   pub spent-steps : spent ≡ mapped filtered a → spent ≡ limited n (inverseGaussianQuantile p mu)
   spent-steps f = sym (tried p mu n a spent s e f)
 
-  pub searched : (m : ℕ) (b : Metered Float) (q : Metered (Option Float)) → have none m ≡ mapped filtered a → b ≡ limited m (inverseGaussianQuantileBracketed p mu) → q ≡ allSome b → q ≡ limited n (inverseGaussianQuantile p mu)
+  pub searched : (m : ℕ) (q : Metered (Option Float)) → have none m ≡ mapped filtered a → q ≡ limited m (someOf (inverseGaussianQuantileBracketed p mu)) → q ≡ limited n (inverseGaussianQuantile p mu)
   unfolding orElse
-  searched m b q f g h = h ∙ ap allSome g ∙ sym (tried p mu n a (have none m) s e f)
+  searched m q f g = g ∙ limited-some m _ ∙ sym (tried p mu n a (have none m) s e f)
 
 -- ---- `inverse_gaussian_quantile_from_survival`
 
@@ -110,17 +137,18 @@ pub survival-unsolvable : (p mu : Float) (n : ℕ) → solvable p mu ≡ false �
 unfolding inverseGaussianQuantileFromSurvival
 survival-unsolvable p mu n e = rw e (sym (limited-now n none))
 
-pub survival-no-guess : (p mu w : Float) (n : ℕ) → solvable p mu ≡ true → spent ≡ limited n (tick (atOnce w)) → spent ≡ limited n (inverseGaussianQuantileFromSurvival p mu)
+pub survival-no-guess : (p mu : Float) (w : Sample) (n : ℕ) → solvable p mu ≡ true → spent ≡ limited n (tick (atOnce w)) → spent ≡ limited n (inverseGaussianQuantileFromSurvival p mu)
 unfolding inverseGaussianQuantileFromSurvival survivalSearch
-survival-no-guess p mu w n s e = rw (s, none-of n w e) (sym (limited-none _))
+survival-no-guess p mu w n s e = rw (s, none-of w e) (sym (limited-none _))
 
-pub survival-from-guess : (p mu z g x : Float) (n m : ℕ) (v : Float) (q : Metered (Option Float)) → solvable p mu ≡ true → z ≡ inverseNormCdf p → g ≡ inverseGaussianQuantileInitialGuessFromZ (neg z) mu
-    → x ≡ startingPoint g mu → have v m ≡ limited n (tick (atOnce (inverseGaussianSurvival x mu)))
+pub survival-from-guess : (p mu z g x : Float) (n m : ℕ) (v d : Float) (q : Metered (Option Float)) → solvable p mu ≡ true → z ≡ inverseNormCdf p → g ≡ inverseGaussianQuantileInitialGuessFromZ (neg z) mu
+    → x ≡ startingPoint g mu → have (sample v d) m ≡ limited n (tick (atOnce (sample (inverseGaussianSurvival x mu) (inverseGaussianPdf x mu))))
     → q ≡ limited m (then (survivalBracketAt x v mu p) (survivalRoundsIn mu p x)) → q ≡ limited n (inverseGaussianQuantileFromSurvival p mu)
 unfolding inverseGaussianQuantileFromSurvival survivalSearch
-survival-from-guess p mu z g x n m v q s y d t e h =
-    let o = value-of n m v (inverseGaussianSurvival x mu) e in
-    rw (s, ← y, ← d, ← t, o .0, o .1) (h ∙ sym (limited-tick m _))
+survival-from-guess p mu z g x n m v d q s y f t e h =
+    let o = value-of e in
+    let a : inverseGaussianSurvival x mu ≡ v = cc in
+    rw (s, ← y, ← f, ← t, a, o .1) (h ∙ sym (limited-tick m _))
 
 pub survival-no-bracket : (p mu x : Float) (n : ℕ) (v : Float) → spent ≡ limited n (survivalBracketAt x v mu p) → spent ≡ limited n (then (survivalBracketAt x v mu p) (survivalRoundsIn mu p x))
 survival-no-bracket p mu x n v e = then-spent n _ (survivalRoundsIn mu p x) e
@@ -129,8 +157,7 @@ pub survival-nowhere : (p mu x : Float) (n m : ℕ) (v : Float) → have none m 
 unfolding survivalRoundsIn
 survival-nowhere p mu x n m v e = then-have n m _ (survivalRoundsIn mu p x) none _ e (sym (limited-now m none))
 
-pub survival-from-bracket : (p mu x : Float) (n m : ℕ) (v : Float) (b : Bracket) (r : Metered Float) (q : Metered (Option Float)) → have (some b) m ≡ limited n (survivalBracketAt x v mu p)
-    → r ≡ limited m (survivalRounds mu p b x) → q ≡ allSome r → q ≡ limited n (then (survivalBracketAt x v mu p) (survivalRoundsIn mu p x))
+pub survival-from-bracket : (p mu x : Float) (n m : ℕ) (v : Float) (b : Bracket) (q : Metered (Option Float)) → have (some b) m ≡ limited n (survivalBracketAt x v mu p)
+    → q ≡ limited m (someOf (survivalRounds mu p b x)) → q ≡ limited n (then (survivalBracketAt x v mu p) (survivalRoundsIn mu p x))
 unfolding survivalRoundsIn
-survival-from-bracket p mu x n m v b r q e h g =
-    then-have n m _ (survivalRoundsIn mu p x) (some b) q e (g ∙ ap allSome h ∙ sym (limited-some m (survivalRounds mu p b x)))
+survival-from-bracket p mu x n m v b q e h = then-have n m _ (survivalRoundsIn mu p x) (some b) q e h

@@ -1,10 +1,15 @@
 -- A result with how many evaluations it took; and what a caller gets of it who is allowed only so many. Definitions only.
 use Prim.Native.Nat.{ℕ, zero, suc, _+_}
+use lib.Ieee.{Float}
 
 -- the source's `Option`
 pub data Option (A : Type 0) : Type 0 where
   some : A → Option A
   none : Option A
+
+-- what an evaluation gives: the curve's value, and the density at the same point
+pub data Sample : Type 0 where
+  sample : Float → Float → Sample
 
 -- a result with how many evaluations it took
 pub record Counted (R : Type 0) : Type 0 where
@@ -22,6 +27,11 @@ tick c = record { result = c .result; count = suc (c .count) }
 -- a second search, which goes on from the first one's result
 abbrev pub then : {R Q : Type 0} → Counted R → (R → Counted Q) → Counted Q
 then c f = record { result = f (c .result) .result; count = c .count + f (c .result) .count }
+
+-- the result if there is one, and else a further search
+unfoldable pub orElse : {R : Type 0} → Option R → Counted R → Counted R
+orElse (some r) c = atOnce r
+orElse none c = c
 
 -- the result as one that might have been none
 abbrev pub someOf : {R : Type 0} → Counted R → Counted (Option R)

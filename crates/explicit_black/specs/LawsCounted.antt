@@ -5,7 +5,7 @@ use Prim.Native.Nat.{ℕ, zero, suc, _+_, _-_, _≤_, _<_, zero-le, suc-le-suc}
 use lib.Ieee.{Float}
 use native.Mathlib.Nat.{zero-add, suc-add}
 use native.Mathlib.Omega.{arith}
-use Rattle.explicit_black.specs.Counted.{some, Counted, atOnce, tick, then, someOf, Metered, have, spent, allSome, allow, limited}
+use Rattle.explicit_black.specs.Counted.{Option, some, none, Counted, Sample, sample, atOnce, tick, then, someOf, Metered, have, spent, allSome, allow, limited}
 use Rattle.explicit_black.specs.Loops.{Next, go, stop, Loop, step, iterate, Ends}
 
 -- ---- what is allowed
@@ -74,20 +74,51 @@ limited-some {R = R} n c = go (c .result) (c .count) n
     go r (suc k) zero = refl
     go r (suc k) (suc n) = go r k n
 
+pub some-spent : {R : Type 0} (n : ℕ) (c : Counted R) → spent ≡ limited n c → spent ≡ limited n (someOf c)
+some-spent n c e = sym (limited-some n c ∙ ap allSome (sym e))
+
+pub some-have : {R : Type 0} (n m : ℕ) (c : Counted R) (r : R) → have r m ≡ limited n c → have (some r) m ≡ limited n (someOf c)
+some-have n m c r e = sym (limited-some n c ∙ ap allSome (sym e))
+
+-- and back: such a result is none never
+pub spent-of : {R : Type 0} (n : ℕ) (c : Counted R) → spent ≡ limited n (someOf c) → spent ≡ limited n c
+spent-of {R = R} n c e = go (limited n c) (e ∙ limited-some n c)
+  where
+    go : (m : Metered R) → spent ≡ allSome m → spent ≡ m
+    go (have r k) h = cc
+    go spent h = refl
+
+pub have-of : {R : Type 0} (n m : ℕ) (c : Counted R) (r : R) → have (some r) m ≡ limited n (someOf c) → have r m ≡ limited n c
+have-of {R = R} n m c r e = go (limited n c) (e ∙ limited-some n c)
+  where
+    go : (q : Metered R) → have (some r) m ≡ allSome q → have r m ≡ q
+    go (have s k) h = cc
+    go spent h = cc
+
+pub never-none : {R : Type 0} (n m : ℕ) (c : Counted R) → have none m ≡ limited n (someOf c) → ⊥
+never-none {R = R} n m c e = go (limited n c) (e ∙ limited-some n c)
+  where
+    go : (q : Metered R) → have none m ≡ allSome q → ⊥
+    go (have s k) h = let z : _≡_ {A = ℕ} 0 1 = cc in omega arith
+    go spent h = let z : _≡_ {A = ℕ} 0 1 = cc in omega arith
+
+pub then-some : {R Q : Type 0} (n m : ℕ) (c : Counted R) (f : R → Counted Q) (r : R) (q : Metered (Option Q)) → have r m ≡ limited n c → q ≡ limited m (someOf (f r)) → q ≡ limited n (someOf (then c f))
+then-some n m c f r q e h = h ∙ limited-some m (f r) ∙ ap allSome (then-have n m c f r (limited m (f r)) e refl) ∙ sym (limited-some n (then c f))
+
 -- ---- what an evaluation tells its caller, who had n allowed: the value, with one fewer; or that n was 0
 
-pub value-of : {R : Type 0} (n m : ℕ) (v w : R) → have v m ≡ limited n (tick (atOnce w)) → (w ≡ v) × (n ≡ suc m)
+pub value-of : {R : Type 0} {n m : ℕ} {v w : R} → have v m ≡ limited n (tick (atOnce w)) → (w ≡ v) × (n ≡ suc m)
 unfolding limited
-value-of zero m v w e = let z : _≡_ {A = ℕ} 0 1 = cc in absurd (omega arith)
-value-of (suc n) m v w e = (cc, cc)
+value-of {n = zero} e = let z : _≡_ {A = ℕ} 0 1 = cc in absurd (omega arith)
+value-of {n = suc n} e = (cc, cc)
 
-pub none-of : {R : Type 0} (n : ℕ) (w : R) → spent ≡ limited n (tick (atOnce w)) → n ≡ zero
+pub none-of : {R : Type 0} {n : ℕ} (w : R) → spent ≡ limited n (tick (atOnce w)) → n ≡ zero
 unfolding limited
-none-of zero w e = refl
-none-of (suc n) w e = cc
+none-of {n = zero} w e = refl
+none-of {n = suc n} w e = cc
 
-pub fewer : {R : Type 0} (n m : ℕ) (v w : R) → have v m ≡ limited n (tick (atOnce w)) → m < n
-fewer n m v w e = omega (arith, value-of n m v w e .1)
+pub fewer : {R : Type 0} {n m : ℕ} {v : R} (w : R) → have v m ≡ limited n (tick (atOnce w)) → m < n
+fewer w e = omega (arith, value-of e .1)
 
 -- ---- loops
 
@@ -163,14 +194,12 @@ module _ {S R : Type 0} {l : Loop S R} {k : ℕ} {a : Metered R} {n : ℕ} where
     ends = subst (Ends l k) d (ends-turn l k s (i .ends));
   }
 
-  -- the same, as an evaluation's contract says it
-  pub carried-turn : {s : S} {m : ℕ} {x : Next S R} (v : Float) → Carried l k a n (go s) → have v m ≡ limited n (tick (atOnce (l .ask (l .point s)))) → l .advance s v ≡ x → Carried l k a m x
-  carried-turn {s} {m} v i e d =
-      let o = value-of n m v (l .ask (l .point s)) e in
-      carried-on i (o .1) (ap (l .advance s) (o .0) ∙ d)
+  -- the same, as an evaluation's contract says it, which gives a density too
+  pub carried-turn : {s : S} {m : ℕ} {x : Next S R} {v d : Float} (q : Float) → Carried l k a n (go s) → have (sample v d) m ≡ limited n (tick (atOnce (sample (l .ask (l .point s)) q))) → l .advance s v ≡ x → Carried l k a m x
+  carried-turn {s} q i e h = let o = value-of e in carried-on i (o .1) (ap (l .advance s) (cc) ∙ h)
 
-  pub carried-spent : {s : S} (w : Float) → Carried l k a n (go s) → spent ≡ limited n (tick (atOnce w)) → spent ≡ a
-  carried-spent w i e = sym (carried-none i (none-of n w e))
+  pub carried-spent : {s : S} (w : Sample) → Carried l k a n (go s) → spent ≡ limited n (tick (atOnce w)) → spent ≡ a
+  carried-spent w i e = sym (carried-none i (none-of w e))
 
   pub carried-at : {x y : Next S R} → Carried l k a n x → x ≡ y → Carried l k a n y
   carried-at i e = subst (Carried l k a n) e i
@@ -190,13 +219,14 @@ module _ {S R : Type 0} {l : Loop S R} {k : ℕ} {a : Metered R} {n : ℕ} where
   left-on {s} {j} {m} {x} i f e d = record { same = i .same ∙ rw (e, f, iterate-suc l j s, d) (limited-tick m (iterate l j x)) }
 
   -- the same, as an evaluation's contract says it
-  pub left-turn : {s : S} {j m : ℕ} {x : Next S R} (v : Float) → Left l k a n (go s) → k ≡ suc j → have v m ≡ limited n (tick (atOnce (l .ask (l .point s)))) → l .advance s v ≡ x → Left l j a m x
-  left-turn {s} {j} {m} v i f e d =
-      let o = value-of n m v (l .ask (l .point s)) e in
-      left-on i f (o .1) (ap (l .advance s) (o .0) ∙ d)
+  pub left-turn : {s : S} {j m : ℕ} {x : Next S R} {v d : Float} (q : Float) (g : Float → Next S R) → Left l k a n (go s) → k ≡ suc j
+      → have (sample v d) m ≡ limited n (tick (atOnce (sample (l .ask (l .point s)) q))) → l .advance s v ≡ g q → g d ≡ x → Left l j a m x
+  left-turn {s} q g i f e c h =
+      let o = value-of e in
+      left-on i f (o .1) (ap (l .advance s) (cc) ∙ c ∙ ap g (cc) ∙ h)
 
-  pub left-spent : {s : S} (j : ℕ) (w : Float) → Left l k a n (go s) → k ≡ suc j → spent ≡ limited n (tick (atOnce w)) → spent ≡ a
-  left-spent j w i f e = sym (left-none j i f (none-of n w e))
+  pub left-spent : {s : S} (j : ℕ) (w : Sample) → Left l k a n (go s) → k ≡ suc j → spent ≡ limited n (tick (atOnce w)) → spent ≡ a
+  left-spent j w i f e = sym (left-none j i f (none-of w e))
 
   pub left-at : {x y : Next S R} → Left l k a n x → x ≡ y → Left l k a n y
   left-at i e = subst (Left l k a n) e i

@@ -6,12 +6,12 @@ use lib.Ieee.{Float, neg, lt}
 use Rattle.arithmetic.specs.Ln.{ln}
 use Rattle.special_function.specs.NormalDistribution.{inverseNormCdf}
 use Rattle.explicit_black.specs.declared.bracket.Bracket.{Bracket}
-use Rattle.explicit_black.specs.Counted.{Option, some, none, Counted, atOnce, someOf}
+use Rattle.explicit_black.specs.Counted.{Option, some, none, Counted, atOnce, someOf, orElse}
 use Rattle.explicit_black.specs.Loops.{go}
 use Rattle.explicit_black.specs.Curves.{inverseGaussianCdf, inverseGaussianSurvival, inverseGaussianQuantileInitialGuess, inverseGaussianQuantileInitialGuessFromZ, startingPoint}
 use Rattle.explicit_black.specs.Bracket.{doubling, doublings, doubledFrom, bracketQuantileFromBelow, halving, halvings, halved, bracketQuantileFromAbove}
 use Rattle.explicit_black.specs.Newton.{newtoning, start, first, steps, inverseGaussianCdfStandardized, inverseGaussianNrstepStandardized, inverseGaussianQuantileActuar}
-use Rattle.explicit_black.specs.Quantile.{bracketAt, clamped, rounding, rounds, inverseGaussianQuantileBracketed, solvable, filtered, orElse, inverseGaussianQuantile}
+use Rattle.explicit_black.specs.Quantile.{bracketAt, clamped, rounding, rounds, inverseGaussianQuantileBracketed, solvable, filtered, inverseGaussianQuantile}
 use Rattle.explicit_black.specs.Survival.{survivalDoubling, cappedFrom, survivalFromBelow, survivalHalving, survivalFromAbove, survivalBracketAt, survivalRounding, survivalRounds, survivalRoundsIn, survivalSearch, inverseGaussianQuantileFromSurvival}
 use Rattle.explicit_black.specs.LawsCounted.{count-le}
 

@@ -19,6 +19,7 @@ use Rattle.explicit_black.specs.Survival.{inverseGaussianQuantileFromSur
 use Rattle.explicit_black.specs.LawsCounts.{quantile-count, from-survival-count}
 use Rattle.explicit_black.specs.LawsRoots.{proper-positive, quantile-fits, from-survival-fits}
 use Rattle.explicit_black.specs.Quote.{Outcome, total, refused, impliedNormalisedVolatilityAtm, atTheMoney, totalAt, searched, fromCallPrice, normalisedOutcome, normalisedTimeValue, valued, priced}
+use Rattle.explicit_black.specs.LawsTests.{priced-is}
 
 pub data Kind (c : Counted Outcome) : Type 0 where
   -- a value that is given at once: 0, infinity, or the one at the money
@@ -88,8 +89,8 @@ unfolding valued
 valued-kind x v = pick (le v minPositive) _ _ (pick-now (le nought v) _ _ zero-kind (number 7 refl (lit≤ tt) (lit≤ tt))) (normalised-kind x v)
 
 pub priced-kind : (p d b r x t : Float) → Kind (priced p d b r x t)
-unfolding priced
 priced-kind p d b r x t =
-    pick (eq t nought) _ _ (pick-now (eq p _) _ _ zero-kind (number 5 refl (lit≤ tt) (lit≤ tt)))
+    rw (priced-is p d b r x t)
+    (pick (eq t nought) _ _ (pick-now (eq p _) _ _ zero-kind (number 5 refl (lit≤ tt) (lit≤ tt)))
     (pick (le b p) _ _ (pick-now (eq p b) _ _ infinity-kind (number 6 refl (lit≤ tt) (lit≤ tt)))
-    (valued-kind x (normalisedTimeValue p d r)))
+    (valued-kind x (normalisedTimeValue p d r))))

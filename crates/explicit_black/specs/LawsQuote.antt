@@ -23,6 +23,7 @@ use Rattle.bs_option_price.specs.BsOptionPrice.{negativeAbsLogMoneyness}
 use Rattle.explicit_black.specs.Counted.{Counted, atOnce}
 use Rattle.explicit_black.specs.Quote.{Outcome, total, refused, Reply, answer, refusal, reply, replyOf, volatility, normalisedOutcome, impliedBlackVolatilityNormalised, firstRefusal, intrinsicValue, priceBound, normalisedTimeValue, valued, priced, inputOutcome, impliedBlackVolatilityInput}
 use Rattle.explicit_black.specs.Demand.{compared}
+use Rattle.explicit_black.specs.LawsTests.{priced-is}
 use Rattle.explicit_black.specs.LawsKinds.{Kind, value, number, root, no-root, normalised-kind, priced-kind}
 use Rattle.explicit_black.specs.LawsZeroPrice.{nought-is, bound-above, or-right}
 
@@ -256,10 +257,11 @@ unfolding normalisedOutcome
 money-normalised x p e = rw e (no-search (le p nought) _ _ refl (no-search (le (exp (neg half ⊗ abs x)) p) _ _ refl refl))
 
 pub money-input : (side : ℕ) (p f k t : Float) → eq (abs (negativeAbsLogMoneyness f k)) nought ≡ true → compared (impliedBlackVolatilityInput side p f k t) .count ≡ 0
-unfolding inputOutcome priced valued
+unfolding inputOutcome valued
 money-input side p f k t e =
     let v = normalisedTimeValue p (intrinsicValue side f k) (sqrt f ⊗ sqrt k) in
     ap (λ d. d .count) (compared-input side p f k t)
     ∙ no-search (eqb (firstRefusal side p f k t) 0) _ _
-    (no-search (eq t nought) _ _ refl (no-search (le (priceBound side f k) p) _ _ refl (no-search (le v minPositive) _ _ refl (money-normalised (negativeAbsLogMoneyness f k) v e))))
+    (rw (priced-is p (intrinsicValue side f k) (priceBound side f k) (sqrt f ⊗ sqrt k) (negativeAbsLogMoneyness f k) t)
+    (no-search (eq t nought) _ _ refl (no-search (le (priceBound side f k) p) _ _ refl (no-search (le v minPositive) _ _ refl (money-normalised (negativeAbsLogMoneyness f k) v e)))))
     refl

@@ -14,12 +14,12 @@ use Rattle.arithmetic.specs.Ln.{ln}
 use Rattle.arithmetic.specs.Laws.ExpFits.{exp-fits}
 use Rattle.special_function.specs.NormalDistribution.{inverseNormCdf}
 use Rattle.explicit_black.specs.declared.bracket.Bracket.{Bracket}
-use Rattle.explicit_black.specs.Counted.{Option, some, none, Counted, atOnce}
+use Rattle.explicit_black.specs.Counted.{Option, some, none, Counted, atOnce, orElse}
 use Rattle.explicit_black.specs.Loops.{Next, go, stop, Loop, step, iterate}
-use Rattle.explicit_black.specs.Curves.{proper, inverseGaussianCdf, inverseGaussianQuantileInitialGuess, inverseGaussianQuantileInitialGuessFromZ, startingPoint}
+use Rattle.explicit_black.specs.Curves.{proper, inverseGaussianPdf, inverseGaussianCdf, inverseGaussianQuantileInitialGuess, inverseGaussianQuantileInitialGuessFromZ, startingPoint}
 use Rattle.explicit_black.specs.Bracket.{tolerance, doubled, doubledFrom, widened, doubling, doublings, bracketQuantileFromBelow, halved, lowered, halving, halvings, bracketQuantileFromAbove, bracketMidpoint, bracketIsTight, narrowed, inside, chosen}
-use Rattle.explicit_black.specs.Newton.{converged, afterMove, first, later, newtoning, steps, start, inverseGaussianQuantileActuar}
-use Rattle.explicit_black.specs.Quantile.{bracketAt, floor, raised, clamped, newtonStep, onward, moved, tightOr, round, rounding, rounds, inverseGaussianQuantileBracketed, solvable, filtered, orElse, inverseGaussianQuantile}
+use Rattle.explicit_black.specs.Newton.{nrstep, converged, afterMove, first, later, newtoning, steps, start, inverseGaussianQuantileActuar}
+use Rattle.explicit_black.specs.Quantile.{bracketAt, floor, raised, clamped, onward, moved, tightOr, round, rounding, rounds, inverseGaussianQuantileBracketed, solvable, filtered, inverseGaussianQuantile}
 use Rattle.explicit_black.specs.Survival.{survivalNewton, survivalMoved, survivalTightOr, survivalRound, survivalRounding, survivalRounds, survivalRoundsIn, survivalSearch, inverseGaussianQuantileFromSurvival}
 
 -- ---- finite and above 0
@@ -126,32 +126,32 @@ unfolding moved
 moved-held b x (some d) = pick _ _ (le (abs d) (tolerance ⊗ max x one)) _ _ (sub-fits binary64 x d) (onward-held b x _ (chosen-held b _ (sub-fits binary64 x d)))
 moved-held b x none = onward-held b x _ (midpoint-held b)
 
-round-held : (mu p : Float) (s : Bracket × Float) (v : Float) → At s → Keeps At Held (round mu p s v)
+round-held : (pdf p : Float) (s : Bracket × Float) (v : Float) → At s → Keeps At Held (round pdf p s v)
 unfolding round tightOr
-round-held mu p s v h =
+round-held pdf p s v h =
     let e = v ⊖ p in
     let b = narrowed (s .0) (s .1) (le e nought) in
-    pick _ _ (eq e nought) _ _ h (pick _ _ (bracketIsTight b) _ _ (midpoint-held b) (moved-held b (s .1) (newtonStep (s .1) e mu)))
+    pick _ _ (eq e nought) _ _ h (pick _ _ (bracketIsTight b) _ _ (midpoint-held b) (moved-held b (s .1) (nrstep pdf e)))
 
 rounds-held : (mu p : Float) (b : Bracket) (x : Float) → Held x → Held (rounds mu p b x .result)
 unfolding rounds
-rounds-held mu p b x h = iterated At Held (rounding mu p) (λ s q. midpoint-held (s .0)) (round-held mu p) 64 (go (b, x)) h
+rounds-held mu p b x h = iterated At Held (rounding mu p) (λ s q. midpoint-held (s .0)) (λ s v. round-held (inverseGaussianPdf (s .1) mu) p s v) 64 (go (b, x)) h
 
 survival-moved-held : (b : Bracket) (x : Float) (t : Option Float) → Keeps At Held (survivalMoved b x t)
 unfolding survivalMoved
 survival-moved-held b x (some d) = pick _ _ (le (abs d) (tolerance ⊗ x)) _ _ (add-fits binary64 x d) (chosen-held b _ (add-fits binary64 x d))
 survival-moved-held b x none = midpoint-held b
 
-survival-round-held : (mu p : Float) (s : Bracket × Float) (v : Float) → At s → Keeps At Held (survivalRound mu p s v)
+survival-round-held : (pdf p : Float) (s : Bracket × Float) (v : Float) → At s → Keeps At Held (survivalRound pdf p s v)
 unfolding survivalRound survivalTightOr
-survival-round-held mu p s v h =
+survival-round-held pdf p s v h =
     let e = v ⊖ p in
     let b = narrowed (s .0) (s .1) (lt nought e) in
-    pick _ _ (eq e nought) _ _ h (pick _ _ (bracketIsTight b) _ _ (midpoint-held b) (survival-moved-held b (s .1) (survivalNewton (s .1) v p mu)))
+    pick _ _ (eq e nought) _ _ h (pick _ _ (bracketIsTight b) _ _ (midpoint-held b) (survival-moved-held b (s .1) (survivalNewton v p pdf)))
 
 survival-rounds-held : (mu p : Float) (b : Bracket) (x : Float) → Held x → Held (survivalRounds mu p b x .result)
 unfolding survivalRounds
-survival-rounds-held mu p b x h = iterated At Held (survivalRounding mu p) (λ s q. midpoint-held (s .0)) (survival-round-held mu p) 64 (go (b, x)) h
+survival-rounds-held mu p b x h = iterated At Held (survivalRounding mu p) (λ s q. midpoint-held (s .0)) (λ s v. survival-round-held (inverseGaussianPdf (s .1) mu) p s v) 64 (go (b, x)) h
 
 -- ---- where they start
 pub guess-held : (z mu : Float) → T (fits binary64 mu) → T (fits binary64 (startingPoint (inverseGaussianQuantileInitialGuessFromZ z mu) mu))

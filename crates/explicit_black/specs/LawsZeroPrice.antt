@@ -21,6 +21,7 @@ use Rattle.arithmetic.specs.Laws.Sums.{add-is}
 use Rattle.arithmetic.specs.Laws.Products.{div-is}
 use Rattle.arithmetic.specs.Laws.Halves.{Ordinary, plus, num-above, positive-zero}
 use Rattle.explicit_black.specs.Counted.{atOnce}
+use Rattle.explicit_black.specs.LawsTests.{priced-is}
 use Rattle.explicit_black.specs.Quote.{total, valued, priced}
 use Rattle.explicit_black.specs.LawsSteps.{lt-plus}
 
@@ -161,8 +162,7 @@ unfolding valued
 nil-valued x v n = rw (nil-low v n, nil-not-below v n)
 
 pub zero-priced : (s : Bool) (d b r x t : Float) → T (finite d) → Ordinary b → Ordinary r → priced (zeroOf s) d b r x t ≡ priced (zeroOf false) d b r x t
-unfolding priced
-zero-priced s d b r x t p o q = rw (eq-zero s (max d nought), bound-above s b o, bound-above false b o, go (lt nought d) (sub-zero s d p))
+zero-priced s d b r x t p o q = rw (priced-is (zeroOf s) d b r x t, priced-is (zeroOf false) d b r x t, eq-zero s (max d nought), bound-above s b o, bound-above false b o, go (lt nought d) (sub-zero s d p))
   where
     go : (u : Bool) → (T u → zeroOf s ⊖ d ≡ zeroOf false ⊖ d) → valued x (cond u (zeroOf s ⊖ d) (zeroOf s) ⊘ r) ≡ valued x (cond u (zeroOf false ⊖ d) (zeroOf false) ⊘ r)
     go true e = ap (λ (z : Float). valued x (z ⊘ r)) (e tt)

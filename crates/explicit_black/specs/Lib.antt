@@ -2,7 +2,6 @@
 pub mod Counted
 pub mod Loops
 pub mod Curves
-pub mod Points
 pub mod Bracket
 pub mod Newton
 pub mod Quantile
@@ -14,6 +13,7 @@ pub mod Demand
 pub mod LawsCounted
 pub mod LawsCounts
 pub mod LawsRoots
+pub mod LawsTests
 pub mod LawsKinds
 pub mod LawsQuote
 pub mod LawsSteps

@@ -3,14 +3,11 @@ use lib.Ieee.{Float}
 use Rattle.explicit_black.specs.declared.bracket.Bracket.{Bracket}
 use Rattle.explicit_black.specs.declared.bracket.Widening.{Widening}
 use Rattle.explicit_black.specs.declared.bracket.Widening.the-variants.{Reached, Wider}
-use Rattle.explicit_black.specs.declared.counted.Evaluation.{Evaluation}
-use Rattle.explicit_black.specs.declared.counted.Evaluation.the-variants.{Value, Spent as NoValue}
-use Rattle.explicit_black.specs.declared.counted.Bracketed.{Bracketed}
-use Rattle.explicit_black.specs.declared.counted.Bracketed.the-variants.{Found, Spent as NoBracket}
+use Rattle.explicit_black.specs.declared.curves.Allowance.{Allowance}
+use Rattle.explicit_black.specs.declared.curves.Evaluation.{Evaluation}
+use Rattle.explicit_black.specs.declared.curves.Evaluation.the-variants.{Value, Spent as NoValue}
 use Rattle.explicit_black.specs.declared.counted.Reach.{Reach}
-use Rattle.explicit_black.specs.declared.counted.Reach.the-variants.{Found as Within, None as Nowhere, Spent as NoReach}
-use Rattle.explicit_black.specs.declared.counted.Rooted.{Rooted}
-use Rattle.explicit_black.specs.declared.counted.Rooted.the-variants.{Root as TheRoot, Spent as NoRoot}
+use Rattle.explicit_black.specs.declared.counted.Reach.the-variants.{Found, None as Nowhere, Spent as NoReach}
 use Rattle.explicit_black.specs.declared.counted.Quantile.{Quantile}
 use Rattle.explicit_black.specs.declared.counted.Quantile.the-variants.{Root, None, Spent}
 use Rattle.explicit_black.specs.declared.newton.Newton.{Newton}
@@ -21,36 +18,26 @@ use Rattle.explicit_black.specs.declared.quantile.Rounded.{Rounded}
 use Rattle.explicit_black.specs.declared.quantile.Rounded.the-variants.{Root as Last, Again}
 use Rattle.explicit_black.specs.declared.survival.Doubling.{Doubling}
 use Rattle.explicit_black.specs.declared.survival.Doubling.the-variants.{Reached as Enough, Wider as More, Beyond}
-use Rattle.explicit_black.specs.Counted.{Option, some, none, Metered, have, spent}
+use Rattle.explicit_black.specs.Counted.{Option, some, none, Sample, sample, Metered, have, spent}
 use Rattle.explicit_black.specs.Loops.{Next, go, stop}
 
 -- ---- with how many evaluations are left
 
--- a curve's value
-abbrev pub evaluated : Evaluation → Metered Float
-evaluated (Value v n) = have v n
+-- a curve's value and the density
+abbrev pub evaluated : Evaluation → Metered Sample
+evaluated (Value v pdf n) = have (sample v pdf) (n .left)
 evaluated NoValue = spent
-
--- a bracket
-abbrev pub bracketed : Bracketed → Metered Bracket
-bracketed (Found b n) = have b n
-bracketed NoBracket = spent
 
 -- a bracket, or none
 abbrev pub reached : Reach → Metered (Option Bracket)
-reached (Within b n) = have (some b) n
-reached (Nowhere n) = have none n
+reached (Found b n) = have (some b) (n .left)
+reached (Nowhere n) = have none (n .left)
 reached NoReach = spent
-
--- a root
-abbrev pub rooted : Rooted → Metered Float
-rooted (TheRoot x n) = have x n
-rooted NoRoot = spent
 
 -- a root, or none
 abbrev pub quantile : Quantile → Metered (Option Float)
-quantile (Root x n) = have (some x) n
-quantile (None n) = have none n
+quantile (Root x n) = have (some x) (n .left)
+quantile (None n) = have none (n .left)
 quantile Spent = spent
 
 -- ---- of one turn

@@ -36,13 +36,13 @@ numerator cdf probability logProbability =
     (cond (lt (abs delta) (bits 0x3EE4_F8B5_88E3_68F1)) (delta ⊗ exp (logProbability ⊕ ln1p (neg half ⊗ delta))) (probability ⊖ cdf))  -- 1.0e-5
     probability
 
--- a step where the distribution's value is cdf and the density pdf: a move, or none
-unfoldable pub nrstep : Float → Float → Float → Float → Option Float
-nrstep pdf cdf probability logProbability = cond (proper pdf) (some (numerator cdf probability logProbability ⊘ pdf)) none
+-- the step that would bring an error to 0 where the density is pdf: a move, or none
+unfoldable pub nrstep : Float → Float → Option Float
+nrstep pdf error = cond (proper pdf) (some (error ⊘ pdf)) none
 
 -- `inverse_gaussian_nrstep_standardized`, where the distribution's value is cdf
 abbrev pub inverseGaussianNrstepStandardized : Float → Float → Float → Float → Float → Option Float
-inverseGaussianNrstepStandardized x cdf probability logProbability phi = nrstep (inverseGaussianPdfStandardized x phi) cdf probability logProbability
+inverseGaussianNrstepStandardized x cdf probability logProbability phi = nrstep (inverseGaussianPdfStandardized x phi) (numerator cdf probability logProbability)
 
 -- where the steps start
 unfoldable pub seed : Float → Float → Float → Float

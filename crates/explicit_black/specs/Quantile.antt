@@ -4,11 +4,11 @@ use lib.Ieee.{Float, lt, le, eq}
 use Rattle.arithmetic.specs.Operations.{_⊖_, _⊗_, _⊘_, nought, one, minPositive}
 use Rattle.arithmetic.specs.Basic.{abs, max}
 use Rattle.explicit_black.specs.declared.bracket.Bracket.{Bracket}
-use Rattle.explicit_black.specs.Counted.{Option, some, none, Counted, atOnce, tick, then, someOf}
+use Rattle.explicit_black.specs.Counted.{Option, some, none, Counted, atOnce, tick, then, someOf, orElse}
 use Rattle.explicit_black.specs.Loops.{Next, go, stop, Loop, iterate}
 use Rattle.explicit_black.specs.Curves.{proper, inverseGaussianCdf, inverseGaussianPdf, inverseGaussianQuantileInitialGuess, startingPoint}
 use Rattle.explicit_black.specs.Bracket.{tolerance, bracketMidpoint, bracketIsTight, bracketQuantileFromBelow, bracketQuantileFromAbove, narrowed, chosen}
-use Rattle.explicit_black.specs.Newton.{inverseGaussianQuantileActuar}
+use Rattle.explicit_black.specs.Newton.{nrstep, inverseGaussianQuantileActuar}
 
 -- ---- `inverse_gaussian_quantile_bracketed`
 
@@ -28,10 +28,6 @@ raised b x = cond (lt x (floor b)) (floor b) x
 unfoldable pub clamped : Bracket → Float → Float
 clamped b x = cond (lt (b .upper) (raised b x)) (b .upper) (raised b x)
 
--- a round's Newton step, or none
-unfoldable pub newtonStep : Float → Float → Float → Option Float
-newtonStep x error mu = let pdf = inverseGaussianPdf x mu in cond (proper pdf) (some (error ⊘ pdf)) none
-
 -- on to the next point, unless that is x again
 unfoldable pub onward : Bracket → Float → Float → Next (Bracket × Float) Float
 onward b x next = cond (eq next x) (stop (bracketMidpoint b)) (go (b, next))
@@ -43,17 +39,22 @@ moved b x none = onward b x (bracketMidpoint b)
 
 -- after the bracket was narrowed
 unfoldable pub tightOr : Float → Bracket → Float → Float → Next (Bracket × Float) Float
-tightOr mu b x error = cond (bracketIsTight b) (stop (bracketMidpoint b)) (moved b x (newtonStep x error mu))
+tightOr pdf b x error = cond (bracketIsTight b) (stop (bracketMidpoint b)) (moved b x (nrstep pdf error))
 
--- one round from the bracket and the point of s, where the distribution is v
+-- one round from the bracket and the point of s, where the density is pdf and the distribution v
 unfoldable pub round : Float → Float → Bracket × Float → Float → Next (Bracket × Float) Float
-round mu p s v =
+round pdf p s v =
     let error = v ⊖ p in
-    cond (eq error nought) (stop (s .1)) (tightOr mu (narrowed (s .0) (s .1) (le error nought)) (s .1) error)
+    cond (eq error nought) (stop (s .1)) (tightOr pdf (narrowed (s .0) (s .1) (le error nought)) (s .1) error)
 
 -- the loop of the rounds
 abbrev pub rounding : Float → Float → Loop (Bracket × Float) Float
-rounding mu p = record { ask = λ x. inverseGaussianCdf x mu; point = λ s. s .1; advance = round mu p; out = λ s. bracketMidpoint (s .0) }
+rounding mu p = record {
+  ask = λ x. inverseGaussianCdf x mu;
+  point = λ s. s .1;
+  advance = λ s v. round (inverseGaussianPdf (s .1) mu) p s v;
+  out = λ s. bracketMidpoint (s .0);
+}
 
 -- MAX_QUANTILE_ITERATIONS is 64
 unfoldable pub rounds : Float → Float → Bracket → Float → Counted Float
@@ -75,11 +76,6 @@ solvable probability mu = lt nought probability && (lt probability one && proper
 unfoldable pub filtered : Option Float → Option Float
 filtered (some x) = cond (proper x) (some x) none
 filtered none = none
-
--- the root if there is one, and else a further search
-unfoldable pub orElse : Option Float → Counted Float → Counted Float
-orElse (some x) c = atOnce x
-orElse none c = c
 
 -- none where there is nothing to look for; the Newton steps, and the bracketed search where they give no root
 unfoldable pub inverseGaussianQuantile : Float → Float → Counted (Option Float)

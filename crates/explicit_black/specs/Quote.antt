@@ -9,7 +9,7 @@ use Rattle.arithmetic.specs.Sqrt.{sqrt}
 use Rattle.arithmetic.specs.Exp.{exp}
 use Rattle.special_function.specs.Erfinv.{erfinv}
 use Rattle.bs_option_price.specs.BsOptionPrice.{negativeAbsLogMoneyness}
-use Rattle.explicit_black.specs.Counted.{Option, some, none, Counted, atOnce}
+use Rattle.explicit_black.specs.Counted.{Option, some, none, Counted, atOnce, orElse}
 use Rattle.explicit_black.specs.Curves.{proper}
 use Rattle.explicit_black.specs.Quantile.{inverseGaussianQuantile}
 use Rattle.explicit_black.specs.Survival.{inverseGaussianQuantileFromSurvival}
@@ -107,12 +107,18 @@ valued logMoneyness timeValue =
     cond (le timeValue minPositive) (atOnce (cond (le nought timeValue) (total nought) (refused 7)))
     (normalisedOutcome logMoneyness timeValue)
 
--- tests 5 and 6, and what passes them
+-- tests 5 and 6: what they decide; nothing where the price is below its bound at a time above zero
+unfoldable pub boundTests : Float → Float → Float → Float → Option Outcome
+boundTests price intrinsic bound time =
+    cond (eq time nought) (some (cond (eq price (max intrinsic nought)) (total nought) (refused 5)))
+    (cond (le bound price) (some (cond (eq price bound) (total infinity) (refused 6)))
+    none)
+
+-- what tests 5 and 6 decide, and else the search for the normalised time value
 unfoldable pub priced : Float → Float → Float → Float → Float → Float → Counted Outcome
+unfolding boundTests orElse
 priced price intrinsic bound roots logMoneyness time =
-    cond (eq time nought) (atOnce (cond (eq price (max intrinsic nought)) (total nought) (refused 5)))
-    (cond (le bound price) (atOnce (cond (eq price bound) (total infinity) (refused 6)))
-    (valued logMoneyness (normalisedTimeValue price intrinsic roots)))
+    orElse (boundTests price intrinsic bound time) (valued logMoneyness (normalisedTimeValue price intrinsic roots))
 
 unfoldable pub inputOutcome : ℕ → Float → Float → Float → Float → Counted Outcome
 inputOutcome side price forward strike time =

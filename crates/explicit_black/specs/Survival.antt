@@ -59,8 +59,8 @@ unfoldable pub survivalStep : Float → Float → Float → Float
 survivalStep v p pdf = cond (far v p) ((ln v ⊖ ln p) ⊗ (v ⊘ pdf)) ((v ⊖ p) ⊘ pdf)
 
 -- a round's Newton step, or none
-unfoldable pub survivalNewton : Float → Float → Float → Float → Option Float
-survivalNewton x v p mu = let pdf = inverseGaussianPdf x mu in cond (proper pdf) (some (survivalStep v p pdf)) none
+unfoldable pub survivalNewton : Float → Float → Float → Option Float
+survivalNewton v p pdf = cond (proper pdf) (some (survivalStep v p pdf)) none
 
 -- a small step is the end
 unfoldable pub survivalMoved : Bracket → Float → Option Float → Next (Bracket × Float) Float
@@ -69,17 +69,22 @@ survivalMoved b x none = go (b, bracketMidpoint b)
 
 -- after the bracket was narrowed
 unfoldable pub survivalTightOr : Float → Float → Bracket → Float → Float → Next (Bracket × Float) Float
-survivalTightOr mu p b x v = cond (bracketIsTight b) (stop (bracketMidpoint b)) (survivalMoved b x (survivalNewton x v p mu))
+survivalTightOr pdf p b x v = cond (bracketIsTight b) (stop (bracketMidpoint b)) (survivalMoved b x (survivalNewton v p pdf))
 
--- one round from the bracket and the point of s, where the survival is v
+-- one round from the bracket and the point of s, where the density is pdf and the survival v
 unfoldable pub survivalRound : Float → Float → Bracket × Float → Float → Next (Bracket × Float) Float
-survivalRound mu p s v =
+survivalRound pdf p s v =
     let error = v ⊖ p in
-    cond (eq error nought) (stop (s .1)) (survivalTightOr mu p (narrowed (s .0) (s .1) (lt nought error)) (s .1) v)
+    cond (eq error nought) (stop (s .1)) (survivalTightOr pdf p (narrowed (s .0) (s .1) (lt nought error)) (s .1) v)
 
 -- the loop of the rounds
 abbrev pub survivalRounding : Float → Float → Loop (Bracket × Float) Float
-survivalRounding mu p = record { ask = λ x. inverseGaussianSurvival x mu; point = λ s. s .1; advance = survivalRound mu p; out = λ s. bracketMidpoint (s .0) }
+survivalRounding mu p = record {
+  ask = λ x. inverseGaussianSurvival x mu;
+  point = λ s. s .1;
+  advance = λ s v. survivalRound (inverseGaussianPdf (s .1) mu) p s v;
+  out = λ s. bracketMidpoint (s .0);
+}
 
 -- MAX_QUANTILE_ITERATIONS is 64
 unfoldable pub survivalRounds : Float → Float → Bracket → Float → Counted Float

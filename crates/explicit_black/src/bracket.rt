@@ -1,6 +1,7 @@
 // The bracket of a root, how it is found from a starting point, and how it is narrowed.
-use crate::counted::Bracketed;
-use crate::counted::Evaluation;
+use crate::counted::Reach;
+use crate::curves::Allowance;
+use crate::curves::Evaluation;
 use crate::curves::inverse_gaussian_cdf;
 use arithmetic::basic::is_finite;
 use arithmetic::exp::exp;
@@ -9,8 +10,8 @@ use special_function::constants::MAX;
 use special_function::constants::MIN_POSITIVE;
 ghost use mathlib.Core.Path.{_≡_};
 ghost use mathlib.Core.Bool.{true};
-ghost use Rattle.explicit_black.specs.Counted.{limited};
-ghost use Rattle.explicit_black.specs.Meanings.{bracketed, widening};
+ghost use Rattle.explicit_black.specs.Counted.{limited, someOf};
+ghost use Rattle.explicit_black.specs.Meanings.{reached, widening};
 ghost use Rattle.explicit_black.specs.Curves.{proper};
 ghost use Rattle.explicit_black.specs.Bracket.{bracketMidpoint, bracketIsTight, doubled, doubledFrom, widened, bracketQuantileFromBelow, halved, lowered, bracketQuantileFromAbove, narrowed, inside, chosen};
 
@@ -136,20 +137,24 @@ pub(crate) fn bracket_quantile_from_below(
     initial: f64,
     mu: f64,
     probability: f64,
-    allowed: u64,
-) -> Bracketed
+    allowed: Allowance,
+) -> Reach
     requires { ⌜ proper initial ≡ true ⌝ }
-    ensures { λ r. ⌜ bracketed r ≡ limited allowed (bracketQuantileFromBelow initial mu probability) ⌝ }
+    ensures { λ r. ⌜ reached r ≡ limited (allowed .left) (someOf (bracketQuantileFromBelow initial mu probability)) ⌝ }
 {
     let mut bracket = Bracket::doubled_from(initial);
     let mut left = allowed;
     loop {
         match inverse_gaussian_cdf(bracket.upper, mu, left) {
-            Evaluation::Spent => return Bracketed::Spent,
-            Evaluation::Value(cdf, rest) => {
+            Evaluation::Spent => return Reach::Spent,
+            Evaluation::Value {
+                value: cdf,
+                pdf: _,
+                rest,
+            } => {
                 left = rest;
                 match bracket.widened(cdf, probability) {
-                    Widening::Reached(b) => return Bracketed::Found(b, left),
+                    Widening::Reached(b) => return Reach::Found(b, left),
                     Widening::Wider(b) => bracket = b,
                 }
             }
@@ -161,19 +166,23 @@ pub(crate) fn bracket_quantile_from_above(
     initial: f64,
     mu: f64,
     probability: f64,
-    allowed: u64,
-) -> Bracketed
+    allowed: Allowance,
+) -> Reach
     requires { ⌜ proper initial ≡ true ⌝ }
-    ensures { λ r. ⌜ bracketed r ≡ limited allowed (bracketQuantileFromAbove initial mu probability) ⌝ }
+    ensures { λ r. ⌜ reached r ≡ limited (allowed .left) (someOf (bracketQuantileFromAbove initial mu probability)) ⌝ }
 {
     let mut trial = Bracket::halved(initial, initial);
     let mut left = allowed;
     loop {
         match trial {
-            Widening::Reached(b) => return Bracketed::Found(b, left),
+            Widening::Reached(b) => return Reach::Found(b, left),
             Widening::Wider(b) => match inverse_gaussian_cdf(b.lower, mu, left) {
-                Evaluation::Spent => return Bracketed::Spent,
-                Evaluation::Value(cdf, rest) => {
+                Evaluation::Spent => return Reach::Spent,
+                Evaluation::Value {
+                    value: cdf,
+                    pdf: _,
+                    rest,
+                } => {
                     left = rest;
                     trial = b.lowered(cdf, probability);
                 }

@@ -3,6 +3,7 @@
 pub mod bracket;
 pub mod counted;
 pub mod curves;
+pub mod initial_guess;
 pub mod newton;
 pub mod quantile;
 pub mod quote;

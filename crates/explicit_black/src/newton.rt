@@ -1,9 +1,10 @@
 // The quantile by Newton steps on the standardised variable x / mu.
-use crate::counted::Evaluation;
 use crate::counted::Quantile;
-use crate::curves::Point;
-use crate::curves::inverse_gaussian_quantile_initial_guess;
-use crate::curves::is_proper;
+use crate::curves::Allowance;
+use crate::curves::Evaluation;
+use crate::curves::inverse_gaussian_cdf;
+use crate::initial_guess::inverse_gaussian_quantile_initial_guess;
+use crate::initial_guess::is_proper;
 use arithmetic::basic::abs;
 use arithmetic::basic::max;
 use arithmetic::basic::recip;
@@ -118,8 +119,8 @@ impl Newton {
 
 impl Stepped {
     // The outcome where no step is left.
-    pub fn last(self, mu: f64, left: u64) -> Quantile
-        ensures { λ r. ⌜ quantile r ≡ have (last mu (stepped self)) left ⌝ }
+    pub fn last(self, mu: f64, left: Allowance) -> Quantile
+        ensures { λ r. ⌜ quantile r ≡ have (last mu (stepped self)) (left .left) ⌝ }
     {
         match self {
             Stepped::Root(root) => Quantile::Root(root, left),
@@ -130,8 +131,14 @@ impl Stepped {
 }
 
 // The steps after the first.
-fn steps(begin: Stepped, probability: f64, log_probability: f64, mu: f64, allowed: u64) -> Quantile
-    ensures { λ r. ⌜ quantile r ≡ limited allowed (steps probability «log_probability» mu (stepped begin)) ⌝ }
+fn steps(
+    begin: Stepped,
+    probability: f64,
+    log_probability: f64,
+    mu: f64,
+    allowed: Allowance,
+) -> Quantile
+    ensures { λ r. ⌜ quantile r ≡ limited (allowed .left) (steps probability «log_probability» mu (stepped begin)) ⌝ }
 {
     let mut left = allowed;
     let mut next = begin;
@@ -140,18 +147,16 @@ fn steps(begin: Stepped, probability: f64, log_probability: f64, mu: f64, allowe
             Stepped::Root(root) => return Quantile::Root(root, left),
             Stepped::None => return Quantile::None(left),
             Stepped::Again(x, direction) => {
-                let point = Point::at(x * mu, mu);
-                match point.cdf(left) {
+                match inverse_gaussian_cdf(x * mu, mu, left) {
                     Evaluation::Spent => return Quantile::Spent,
-                    Evaluation::Value(cdf, rest) => {
+                    Evaluation::Value {
+                        value: cdf,
+                        pdf,
+                        rest,
+                    } => {
                         left = rest;
-                        let step = inverse_gaussian_nrstep_standardized(
-                            mu * point.pdf(),
-                            cdf,
-                            probability,
-                            log_probability,
-                        );
-                        next = step.later(x, direction, mu);
+                        let error = numerator(cdf, probability, log_probability);
+                        next = nrstep(mu * pdf, error).later(x, direction, mu);
                     }
                 }
             }
@@ -160,22 +165,21 @@ fn steps(begin: Stepped, probability: f64, log_probability: f64, mu: f64, allowe
     next.last(mu, left)
 }
 
-pub fn inverse_gaussian_quantile_actuar(probability: f64, mu: f64, allowed: u64) -> Quantile
-    ensures { λ r. ⌜ quantile r ≡ limited allowed (inverseGaussianQuantileActuar probability mu) ⌝ }
+pub fn inverse_gaussian_quantile_actuar(probability: f64, mu: f64, allowed: Allowance) -> Quantile
+    ensures { λ r. ⌜ quantile r ≡ limited (allowed .left) (inverseGaussianQuantileActuar probability mu) ⌝ }
 {
     let log_probability = ln(probability);
     let x = start(probability, log_probability, mu);
-    let point = Point::at(x * mu, mu);
-    match point.cdf(allowed) {
+    match inverse_gaussian_cdf(x * mu, mu, allowed) {
         Evaluation::Spent => Quantile::Spent,
-        Evaluation::Value(cdf, left) => {
-            let step = inverse_gaussian_nrstep_standardized(
-                mu * point.pdf(),
-                cdf,
-                probability,
-                log_probability,
-            );
-            steps(step.first(x, mu), probability, log_probability, mu, left)
+        Evaluation::Value {
+            value: cdf,
+            pdf,
+            rest,
+        } => {
+            let error = numerator(cdf, probability, log_probability);
+            let begin = nrstep(mu * pdf, error).first(x, mu);
+            steps(begin, probability, log_probability, mu, rest)
         }
     }
 }
@@ -206,17 +210,12 @@ fn numerator(cdf: f64, probability: f64, log_probability: f64) -> f64
     probability
 }
 
-// The step where the distribution is `cdf` and the density `pdf`.
-pub fn inverse_gaussian_nrstep_standardized(
-    pdf: f64,
-    cdf: f64,
-    probability: f64,
-    log_probability: f64,
-) -> Newton
-    ensures { λ r. ⌜ newton r ≡ nrstep pdf cdf probability «log_probability» ⌝ }
+// The step that would bring `error` to 0 where the density is `pdf`.
+pub fn nrstep(pdf: f64, error: f64) -> Newton
+    ensures { λ r. ⌜ newton r ≡ nrstep pdf error ⌝ }
 {
     if is_proper(pdf) {
-        return Newton::Move(numerator(cdf, probability, log_probability) / pdf);
+        return Newton::Move(error / pdf);
     }
     Newton::Refused
 }

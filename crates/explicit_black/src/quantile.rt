@@ -5,27 +5,26 @@ use crate::bracket::bracket_is_tight;
 use crate::bracket::bracket_midpoint;
 use crate::bracket::bracket_quantile_from_above;
 use crate::bracket::bracket_quantile_from_below;
-use crate::counted::Bracketed;
-use crate::counted::Evaluation;
 use crate::counted::Quantile;
-use crate::counted::Rooted;
-use crate::curves::Point;
+use crate::counted::Reach;
+use crate::curves::Allowance;
+use crate::curves::Evaluation;
 use crate::curves::inverse_gaussian_cdf;
-use crate::curves::inverse_gaussian_quantile_initial_guess;
-use crate::curves::is_proper;
-use crate::curves::starting_point;
+use crate::initial_guess::inverse_gaussian_quantile_initial_guess;
+use crate::initial_guess::is_proper;
+use crate::initial_guess::starting_point;
 use crate::newton::Newton;
 use crate::newton::inverse_gaussian_quantile_actuar;
+use crate::newton::nrstep;
 use arithmetic::basic::abs;
 use arithmetic::basic::max;
 use special_function::constants::MIN_POSITIVE;
 ghost use mathlib.Core.Path.{_≡_};
 ghost use mathlib.Core.Bool.{true};
-ghost use Rattle.explicit_black.specs.Counted.{limited, mapped};
+ghost use Rattle.explicit_black.specs.Counted.{limited, mapped, someOf};
 ghost use Rattle.explicit_black.specs.Curves.{proper};
-ghost use Rattle.explicit_black.specs.Meanings.{bracketed, rooted, quantile, newton, rounded};
-ghost use Rattle.explicit_black.specs.Points.{pointAt};
-ghost use Rattle.explicit_black.specs.Quantile.{solvable, filtered, inverseGaussianQuantile, bracketAt, floor, raised, clamped, newtonStep, onward, moved, round, rounds, inverseGaussianQuantileBracketed};
+ghost use Rattle.explicit_black.specs.Meanings.{reached, quantile, newton, rounded};
+ghost use Rattle.explicit_black.specs.Quantile.{solvable, filtered, inverseGaussianQuantile, bracketAt, floor, raised, clamped, onward, moved, round, rounds, inverseGaussianQuantileBracketed};
 
 // What a round leads to: the root, or a narrower bracket with the next point.
 pub enum Rounded {
@@ -66,44 +65,29 @@ impl Quantile {
     }
 }
 
-pub fn inverse_gaussian_quantile(probability: f64, mu: f64, allowed: u64) -> Quantile
-    ensures { λ r. ⌜ quantile r ≡ limited allowed (inverseGaussianQuantile probability mu) ⌝ }
+pub fn inverse_gaussian_quantile(probability: f64, mu: f64, allowed: Allowance) -> Quantile
+    ensures { λ r. ⌜ quantile r ≡ limited (allowed .left) (inverseGaussianQuantile probability mu) ⌝ }
 {
     if !is_solvable(probability, mu) {
         return Quantile::None(allowed);
     }
     match inverse_gaussian_quantile_actuar(probability, mu, allowed).filtered() {
         Quantile::Root(root, left) => Quantile::Root(root, left),
-        Quantile::None(left) => {
-            let rooted = inverse_gaussian_quantile_bracketed(probability, mu, left);
-            rooted.quantile()
-        }
+        Quantile::None(left) => inverse_gaussian_quantile_bracketed(probability, mu, left),
         Quantile::Spent => Quantile::Spent,
     }
 }
 
 // The bracket on the side that the value at x points to.
-fn bracket_at(x: f64, cdf: f64, mu: f64, probability: f64, allowed: u64) -> Bracketed
+fn bracket_at(x: f64, cdf: f64, mu: f64, probability: f64, allowed: Allowance) -> Reach
     requires { ⌜ proper x ≡ true ⌝ }
-    ensures { λ r. ⌜ bracketed r ≡ limited allowed (bracketAt x cdf mu probability) ⌝ }
+    ensures { λ r. ⌜ reached r ≡ limited (allowed .left) (someOf (bracketAt x cdf mu probability)) ⌝ }
 {
     if cdf < probability {
         bracket_quantile_from_below(x, mu, probability, allowed)
     } else {
         bracket_quantile_from_above(x, mu, probability, allowed)
     }
-}
-
-// The Newton step from the point, where the distribution is off by `error`.
-fn newton_step(point: Point, error: f64) -> Newton
-    requires { ⌜ point ≡ pointAt (point .x) (point .mu) ⌝ }
-    ensures { λ r. ⌜ newton r ≡ newtonStep (point .x) error (point .mu) ⌝ }
-{
-    let pdf = point.pdf();
-    if is_proper(pdf) {
-        return Newton::Move(error / pdf);
-    }
-    Newton::Refused
 }
 
 impl Bracket {
@@ -162,12 +146,10 @@ impl Bracket {
         }
     }
 
-    // One round, where the distribution is `cdf` at the point.
-    pub(crate) fn round(self, point: Point, cdf: f64, probability: f64) -> Rounded
-        requires { ⌜ point ≡ pointAt (point .x) (point .mu) ⌝ }
-        ensures { λ r. ⌜ rounded r ≡ round (point .mu) probability (self, point .x) cdf ⌝ }
+    // One round, where at x the distribution is `cdf` and the density `pdf`.
+    pub fn round(self, x: f64, cdf: f64, pdf: f64, probability: f64) -> Rounded
+        ensures { λ r. ⌜ rounded r ≡ round pdf probability (self, x) cdf ⌝ }
     {
-        let x = point.x;
         let error = cdf - probability;
         if error == 0.0 {
             return Rounded::Root(x);
@@ -176,24 +158,27 @@ impl Bracket {
         if bracket_is_tight(bracket) {
             return Rounded::Root(bracket_midpoint(bracket));
         }
-        bracket.moved(x, newton_step(point, error))
+        bracket.moved(x, nrstep(pdf, error))
     }
 }
 
-fn rounds(start: Bracket, guess: f64, mu: f64, probability: f64, allowed: u64) -> Rooted
-    ensures { λ r. ⌜ rooted r ≡ limited allowed (rounds mu probability start guess) ⌝ }
+fn rounds(start: Bracket, guess: f64, mu: f64, probability: f64, allowed: Allowance) -> Quantile
+    ensures { λ r. ⌜ quantile r ≡ limited (allowed .left) (someOf (rounds mu probability start guess)) ⌝ }
 {
     let mut bracket = start;
     let mut x = guess;
     let mut left = allowed;
     for _ in 0u32..64 {
-        let point = Point::at(x, mu);
-        match point.cdf(left) {
-            Evaluation::Spent => return Rooted::Spent,
-            Evaluation::Value(cdf, rest) => {
+        match inverse_gaussian_cdf(x, mu, left) {
+            Evaluation::Spent => return Quantile::Spent,
+            Evaluation::Value {
+                value: cdf,
+                pdf,
+                rest,
+            } => {
                 left = rest;
-                match bracket.round(point, cdf, probability) {
-                    Rounded::Root(root) => return Rooted::Root(root, left),
+                match bracket.round(x, cdf, pdf, probability) {
+                    Rounded::Root(root) => return Quantile::Root(root, left),
                     Rounded::Again(b, next) => {
                         bracket = b;
                         x = next;
@@ -202,19 +187,29 @@ fn rounds(start: Bracket, guess: f64, mu: f64, probability: f64, allowed: u64) -
             }
         }
     }
-    Rooted::Root(bracket_midpoint(bracket), left)
+    Quantile::Root(bracket_midpoint(bracket), left)
 }
 
-pub(crate) fn inverse_gaussian_quantile_bracketed(probability: f64, mu: f64, allowed: u64) -> Rooted
+pub(crate) fn inverse_gaussian_quantile_bracketed(
+    probability: f64,
+    mu: f64,
+    allowed: Allowance,
+) -> Quantile
     requires { ⌜ proper mu ≡ true ⌝ }
-    ensures { λ r. ⌜ rooted r ≡ limited allowed (inverseGaussianQuantileBracketed probability mu) ⌝ }
+    ensures { λ r. ⌜ quantile r ≡ limited (allowed .left) (someOf (inverseGaussianQuantileBracketed probability mu)) ⌝ }
 {
     let x = starting_point(inverse_gaussian_quantile_initial_guess(probability, mu), mu);
-    let Evaluation::Value(cdf, left) = inverse_gaussian_cdf(x, mu, allowed) else {
-        return Rooted::Spent;
+    let Evaluation::Value {
+        value: cdf,
+        pdf: _,
+        rest,
+    } = inverse_gaussian_cdf(x, mu, allowed)
+    else {
+        return Quantile::Spent;
     };
-    let Bracketed::Found(bracket, rest) = bracket_at(x, cdf, mu, probability, left) else {
-        return Rooted::Spent;
-    };
-    rounds(bracket, bracket.clamped(x), mu, probability, rest)
+    match bracket_at(x, cdf, mu, probability, rest) {
+        Reach::Found(bracket, left) => rounds(bracket, bracket.clamped(x), mu, probability, left),
+        Reach::None(left) => Quantile::None(left),
+        Reach::Spent => Quantile::Spent,
+    }
 }

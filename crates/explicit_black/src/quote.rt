@@ -1,6 +1,7 @@
 // The entries: the total volatility and the volatility of a price, or the number of a refusal.
 use crate::counted::Quantile;
-use crate::curves::is_proper;
+use crate::curves::Allowance;
+use crate::initial_guess::is_proper;
 use crate::quantile::inverse_gaussian_quantile;
 use crate::survival::inverse_gaussian_quantile_from_survival;
 use arithmetic::basic::abs;
@@ -20,8 +21,8 @@ ghost use Rattle.arithmetic.specs.Sqrt.{sqrt};
 ghost use Rattle.bs_option_price.specs.BsOptionPrice.{negativeAbsLogMoneyness};
 ghost use Rattle.explicit_black.specs.Counted.{atOnce, mapped, limited};
 ghost use Rattle.explicit_black.specs.Meanings.{quantile};
-ghost use Rattle.explicit_black.specs.Quote.{impliedNormalisedVolatilityAtm, atTheMoney, totalAt, fromCallPrice, normalisedOutcome, impliedBlackVolatilityNormalised, firstRefusal, intrinsicValue, priceBound, normalisedTimeValue, valued, priced, inputOutcome, impliedBlackVolatilityInput, volatility};
-ghost use Rattle.explicit_black.specs.Replies.{replied, solved, Within, RepliesTo};
+ghost use Rattle.explicit_black.specs.Quote.{impliedNormalisedVolatilityAtm, atTheMoney, totalAt, fromCallPrice, normalisedOutcome, impliedBlackVolatilityNormalised, firstRefusal, intrinsicValue, priceBound, normalisedTimeValue, boundTests, valued, priced, inputOutcome, impliedBlackVolatilityInput, volatility};
+ghost use Rattle.explicit_black.specs.Replies.{replied, solved, decided, Within, RepliesTo};
 
 const SQRT_2: f64 = 1.4142135623730951;
 
@@ -34,8 +35,8 @@ const MAX_EVALUATIONS: u64 = 2263;
 // The total volatility or the number of a refusal, with how many evaluations are still allowed; or
 // spent where one more was needed.
 pub enum Solved {
-    Total(f64, u64),
-    Refused(u32, u64),
+    Total(f64, Allowance),
+    Refused(u32, Allowance),
     Spent,
 }
 
@@ -67,25 +68,25 @@ fn volatility(total: f64, time: f64, root_time: f64) -> f64
 }
 
 impl Solved {
-    // The reply of a quote that was allowed MAX_EVALUATIONS: its count is what its calls took off.
-    fn reply(self, time: f64, root_time: f64) -> Reply
-        requires { ⌜ («root_time» ≡ sqrt time) × Within 2263 (solved self) ⌝ }
-        ensures { λ r. ⌜ RepliesTo 2263 time (solved self) (replied r) ⌝ }
+    // The reply of a quote that was allowed so many evaluations: its count is what its calls took off.
+    fn reply(self, allowed: u64, time: f64, root_time: f64) -> Reply
+        requires { ⌜ («root_time» ≡ sqrt time) × Within allowed (solved self) ⌝ }
+        ensures { λ r. ⌜ RepliesTo allowed time (solved self) (replied r) ⌝ }
     {
         match self {
-            Solved::Total(total, left) => Reply::Answer {
+            Solved::Total(total, rest) => Reply::Answer {
                 total: total,
                 volatility: volatility(total, time, root_time),
-                count: MAX_EVALUATIONS - left,
+                count: allowed - rest.left(),
             },
-            Solved::Refused(number, left) => Reply::Refusal {
+            Solved::Refused(number, rest) => Reply::Refusal {
                 number: number,
-                count: MAX_EVALUATIONS - left,
+                count: allowed - rest.left(),
             },
-            // not reached
+            // Within says that this is no case
             Solved::Spent => Reply::Refusal {
                 number: 9,
-                count: MAX_EVALUATIONS,
+                count: allowed,
             },
         }
     }
@@ -98,8 +99,8 @@ fn implied_normalised_volatility_atm(beta: f64) -> f64
 }
 
 // Refused where the value is NaN or below 0.
-fn at_the_money(price: f64, allowed: u64) -> Solved
-    ensures { λ r. ⌜ solved r ≡ limited allowed (atOnce (atTheMoney price)) ⌝ }
+fn at_the_money(price: f64, allowed: Allowance) -> Solved
+    ensures { λ r. ⌜ solved r ≡ limited (allowed .left) (atOnce (atTheMoney price)) ⌝ }
 {
     let total = implied_normalised_volatility_atm(price);
     if total >= 0.0 {
@@ -125,8 +126,8 @@ fn total(root: Quantile) -> Solved
 }
 
 // The price is given as a fraction of its bound.
-fn from_call_price(otm_call_price: f64, mu: f64, allowed: u64) -> Solved
-    ensures { λ r. ⌜ solved r ≡ limited allowed (fromCallPrice «otm_call_price» mu) ⌝ }
+fn from_call_price(otm_call_price: f64, mu: f64, allowed: Allowance) -> Solved
+    ensures { λ r. ⌜ solved r ≡ limited (allowed .left) (fromCallPrice «otm_call_price» mu) ⌝ }
 {
     if otm_call_price < 1.0e-5 {
         return total(inverse_gaussian_quantile_from_survival(otm_call_price, mu, allowed));
@@ -142,8 +143,8 @@ fn from_call_price(otm_call_price: f64, mu: f64, allowed: u64) -> Solved
 }
 
 // The normalised entry after its test for figures that are not finite, with an allowance.
-pub fn normalised_outcome(log_moneyness: f64, price: f64, allowed: u64) -> Solved
-    ensures { λ r. ⌜ solved r ≡ limited allowed (normalisedOutcome «log_moneyness» price) ⌝ }
+pub fn normalised_outcome(log_moneyness: f64, price: f64, allowed: Allowance) -> Solved
+    ensures { λ r. ⌜ solved r ≡ limited (allowed .left) (normalisedOutcome «log_moneyness» price) ⌝ }
 {
     if price <= 0.0 {
         if price == 0.0 {
@@ -175,7 +176,8 @@ pub fn implied_black_volatility_normalised(log_moneyness: f64, normalised_price:
         };
     }
     // as at time 1
-    normalised_outcome(log_moneyness, normalised_price, MAX_EVALUATIONS).reply(1.0, 1.0)
+    let allowed = Allowance::new(MAX_EVALUATIONS);
+    normalised_outcome(log_moneyness, normalised_price, allowed).reply(MAX_EVALUATIONS, 1.0, 1.0)
 }
 
 fn are_above_zero(forward: f64, strike: f64) -> bool
@@ -231,8 +233,8 @@ fn normalised_time_value(price: f64, intrinsic: f64, roots: f64) -> f64
 }
 
 // From the normalised time value on.
-pub fn valued(forward: f64, strike: f64, time_value: f64, allowed: u64) -> Solved
-    ensures { λ r. ⌜ solved r ≡ limited allowed (valued (negativeAbsLogMoneyness forward strike) «time_value») ⌝ }
+pub fn valued(forward: f64, strike: f64, time_value: f64, allowed: Allowance) -> Solved
+    ensures { λ r. ⌜ solved r ≡ limited (allowed .left) (valued (negativeAbsLogMoneyness forward strike) «time_value») ⌝ }
 {
     if time_value <= MIN_POSITIVE {
         if time_value >= 0.0 {
@@ -247,7 +249,33 @@ pub fn valued(forward: f64, strike: f64, time_value: f64, allowed: u64) -> Solve
     )
 }
 
-// After tests 5 and 6.
+// What tests 5 and 6 decide; open where the price is below its bound at a time above zero.
+pub enum Tested {
+    Total(f64),
+    Refused(u32),
+    Open,
+}
+
+// Tests 5 and 6.
+pub fn bound_tests(price: f64, intrinsic: f64, bound: f64, time: f64) -> Tested
+    ensures { λ r. ⌜ decided r ≡ boundTests price intrinsic bound time ⌝ }
+{
+    if time == 0.0 {
+        if price == max(intrinsic, 0.0) {
+            return Tested::Total(0.0);
+        }
+        return Tested::Refused(5);
+    }
+    if price >= bound {
+        if price == bound {
+            return Tested::Total(f64::from_bits(INFINITY));
+        }
+        return Tested::Refused(6);
+    }
+    Tested::Open
+}
+
+// After tests 5 and 6: the solver, which is given the roots.
 pub fn below_bound(
     price: f64,
     intrinsic: f64,
@@ -255,9 +283,9 @@ pub fn below_bound(
     strike: f64,
     root_forward: f64,
     root_strike: f64,
-    allowed: u64,
+    allowed: Allowance,
 ) -> Solved
-    ensures { λ r. ⌜ solved r ≡ limited allowed (valued (negativeAbsLogMoneyness forward strike) (normalisedTimeValue price intrinsic («root_forward» ⊗ «root_strike»))) ⌝ }
+    ensures { λ r. ⌜ solved r ≡ limited (allowed .left) (valued (negativeAbsLogMoneyness forward strike) (normalisedTimeValue price intrinsic («root_forward» ⊗ «root_strike»))) ⌝ }
 {
     let time_value = normalised_time_value(price, intrinsic, root_forward * root_strike);
     valued(forward, strike, time_value, allowed)
@@ -271,31 +299,23 @@ pub fn priced(
     forward: f64,
     strike: f64,
     time: f64,
-    allowed: u64,
+    allowed: Allowance,
 ) -> Solved
-    ensures { λ r. ⌜ solved r ≡ limited allowed (priced price intrinsic bound (sqrt forward ⊗ sqrt strike) (negativeAbsLogMoneyness forward strike) time) ⌝ }
+    ensures { λ r. ⌜ solved r ≡ limited (allowed .left) (priced price intrinsic bound (sqrt forward ⊗ sqrt strike) (negativeAbsLogMoneyness forward strike) time) ⌝ }
 {
-    if time == 0.0 {
-        if price == max(intrinsic, 0.0) {
-            return Solved::Total(0.0, allowed);
-        }
-        return Solved::Refused(5, allowed);
+    match bound_tests(price, intrinsic, bound, time) {
+        Tested::Total(total) => Solved::Total(total, allowed),
+        Tested::Refused(number) => Solved::Refused(number, allowed),
+        Tested::Open => below_bound(
+            price,
+            intrinsic,
+            forward,
+            strike,
+            sqrt(forward),
+            sqrt(strike),
+            allowed,
+        ),
     }
-    if price >= bound {
-        if price == bound {
-            return Solved::Total(f64::from_bits(INFINITY), allowed);
-        }
-        return Solved::Refused(6, allowed);
-    }
-    below_bound(
-        price,
-        intrinsic,
-        forward,
-        strike,
-        sqrt(forward),
-        sqrt(strike),
-        allowed,
-    )
 }
 
 // A quote with an allowance.
@@ -305,9 +325,9 @@ pub fn input_outcome(
     forward: f64,
     strike: f64,
     time: f64,
-    allowed: u64,
+    allowed: Allowance,
 ) -> Solved
-    ensures { λ r. ⌜ solved r ≡ limited allowed (inputOutcome side price forward strike time) ⌝ }
+    ensures { λ r. ⌜ solved r ≡ limited (allowed .left) (inputOutcome side price forward strike time) ⌝ }
 {
     let number = first_refusal(side, price, forward, strike, time);
     if number != 0 {
@@ -327,5 +347,10 @@ pub fn implied_black_volatility_input(
 ) -> Reply
     ensures { λ r. ⌜ replied r ≡ impliedBlackVolatilityInput side price forward strike time ⌝ }
 {
-    input_outcome(side, price, forward, strike, time, MAX_EVALUATIONS).reply(time, sqrt(time))
+    let allowed = Allowance::new(MAX_EVALUATIONS);
+    input_outcome(side, price, forward, strike, time, allowed).reply(
+        MAX_EVALUATIONS,
+        time,
+        sqrt(time),
+    )
 }

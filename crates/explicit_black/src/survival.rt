@@ -4,16 +4,14 @@ use crate::bracket::QUANTILE_BRACKET_TOLERANCE;
 use crate::bracket::Widening;
 use crate::bracket::bracket_is_tight;
 use crate::bracket::bracket_midpoint;
-use crate::counted::Bracketed;
-use crate::counted::Evaluation;
 use crate::counted::Quantile;
 use crate::counted::Reach;
-use crate::counted::Rooted;
-use crate::curves::Point;
-use crate::curves::inverse_gaussian_quantile_initial_guess_from_z;
+use crate::curves::Allowance;
+use crate::curves::Evaluation;
 use crate::curves::inverse_gaussian_survival;
-use crate::curves::is_proper;
-use crate::curves::starting_point;
+use crate::initial_guess::inverse_gaussian_quantile_initial_guess_from_z;
+use crate::initial_guess::is_proper;
+use crate::initial_guess::starting_point;
 use crate::newton::Newton;
 use crate::quantile::Rounded;
 use crate::quantile::is_solvable;
@@ -24,10 +22,9 @@ use special_function::constants::MAX;
 use special_function::normal_distribution::inverse_norm_cdf;
 ghost use mathlib.Core.Path.{_≡_};
 ghost use mathlib.Core.Bool.{true};
-ghost use Rattle.explicit_black.specs.Counted.{limited};
+ghost use Rattle.explicit_black.specs.Counted.{limited, someOf};
 ghost use Rattle.explicit_black.specs.Curves.{proper};
-ghost use Rattle.explicit_black.specs.Meanings.{bracketed, reached, rooted, quantile, newton, rounded, widening, doubling};
-ghost use Rattle.explicit_black.specs.Points.{pointAt};
+ghost use Rattle.explicit_black.specs.Meanings.{reached, quantile, newton, rounded, widening, doubling};
 ghost use Rattle.explicit_black.specs.Survival.{cappedFrom, survivalWidened, survivalFromBelow, survivalLowered, survivalFromAbove, survivalBracketAt, far, survivalStep, survivalNewton, survivalMoved, survivalRound, survivalRounds, inverseGaussianQuantileFromSurvival};
 
 // What a value at the upper bound leads to: the bracket holds the root, a wider one is to be tried,
@@ -88,12 +85,10 @@ impl Bracket {
         }
     }
 
-    // One round, at the point.
-    pub(crate) fn survival_round(self, point: Point, survival: f64, probability: f64) -> Rounded
-        requires { ⌜ point ≡ pointAt (point .x) (point .mu) ⌝ }
-        ensures { λ r. ⌜ rounded r ≡ survivalRound (point .mu) probability (self, point .x) survival ⌝ }
+    // One round, where at x the survival is `survival` and the density `pdf`.
+    pub fn survival_round(self, x: f64, survival: f64, pdf: f64, probability: f64) -> Rounded
+        ensures { λ r. ⌜ rounded r ≡ survivalRound pdf probability (self, x) survival ⌝ }
     {
-        let x = point.x;
         let error = survival - probability;
         if error == 0.0 {
             return Rounded::Root(x);
@@ -102,20 +97,24 @@ impl Bracket {
         if bracket_is_tight(bracket) {
             return Rounded::Root(bracket_midpoint(bracket));
         }
-        bracket.survival_moved(x, survival_newton(point, survival, probability))
+        bracket.survival_moved(x, survival_newton(survival, probability, pdf))
     }
 }
 
-fn from_below(initial: f64, mu: f64, probability: f64, allowed: u64) -> Reach
+fn from_below(initial: f64, mu: f64, probability: f64, allowed: Allowance) -> Reach
     requires { ⌜ proper initial ≡ true ⌝ }
-    ensures { λ r. ⌜ reached r ≡ limited allowed (survivalFromBelow initial mu probability) ⌝ }
+    ensures { λ r. ⌜ reached r ≡ limited (allowed .left) (survivalFromBelow initial mu probability) ⌝ }
 {
     let mut bracket = Bracket::capped_from(initial);
     let mut left = allowed;
     loop {
         match inverse_gaussian_survival(bracket.upper, mu, left) {
             Evaluation::Spent => return Reach::Spent,
-            Evaluation::Value(survival, rest) => {
+            Evaluation::Value {
+                value: survival,
+                pdf: _,
+                rest,
+            } => {
                 left = rest;
                 match bracket.survival_widened(survival, probability) {
                     Doubling::Reached(b) => return Reach::Found(b, left),
@@ -127,18 +126,22 @@ fn from_below(initial: f64, mu: f64, probability: f64, allowed: u64) -> Reach
     }
 }
 
-fn from_above(initial: f64, mu: f64, probability: f64, allowed: u64) -> Bracketed
+fn from_above(initial: f64, mu: f64, probability: f64, allowed: Allowance) -> Reach
     requires { ⌜ proper initial ≡ true ⌝ }
-    ensures { λ r. ⌜ bracketed r ≡ limited allowed (survivalFromAbove initial mu probability) ⌝ }
+    ensures { λ r. ⌜ reached r ≡ limited (allowed .left) (someOf (survivalFromAbove initial mu probability)) ⌝ }
 {
     let mut trial = Bracket::halved(initial, initial);
     let mut left = allowed;
     loop {
         match trial {
-            Widening::Reached(b) => return Bracketed::Found(b, left),
+            Widening::Reached(b) => return Reach::Found(b, left),
             Widening::Wider(b) => match inverse_gaussian_survival(b.lower, mu, left) {
-                Evaluation::Spent => return Bracketed::Spent,
-                Evaluation::Value(survival, rest) => {
+                Evaluation::Spent => return Reach::Spent,
+                Evaluation::Value {
+                    value: survival,
+                    pdf: _,
+                    rest,
+                } => {
                     left = rest;
                     trial = b.survival_lowered(survival, probability);
                 }
@@ -148,14 +151,20 @@ fn from_above(initial: f64, mu: f64, probability: f64, allowed: u64) -> Brackete
 }
 
 // The bracket on the side that the value at x points to.
-fn survival_bracket_at(x: f64, survival: f64, mu: f64, probability: f64, allowed: u64) -> Reach
+fn survival_bracket_at(
+    x: f64,
+    survival: f64,
+    mu: f64,
+    probability: f64,
+    allowed: Allowance,
+) -> Reach
     requires { ⌜ proper x ≡ true ⌝ }
-    ensures { λ r. ⌜ reached r ≡ limited allowed (survivalBracketAt x survival mu probability) ⌝ }
+    ensures { λ r. ⌜ reached r ≡ limited (allowed .left) (survivalBracketAt x survival mu probability) ⌝ }
 {
     if survival > probability {
         from_below(x, mu, probability, allowed)
     } else {
-        from_above(x, mu, probability, allowed).reach()
+        from_above(x, mu, probability, allowed)
     }
 }
 
@@ -180,31 +189,38 @@ fn survival_step(survival: f64, probability: f64, pdf: f64) -> f64
     (survival - probability) / pdf
 }
 
-fn survival_newton(point: Point, survival: f64, probability: f64) -> Newton
-    requires { ⌜ point ≡ pointAt (point .x) (point .mu) ⌝ }
-    ensures { λ r. ⌜ newton r ≡ survivalNewton (point .x) survival probability (point .mu) ⌝ }
+fn survival_newton(survival: f64, probability: f64, pdf: f64) -> Newton
+    ensures { λ r. ⌜ newton r ≡ survivalNewton survival probability pdf ⌝ }
 {
-    let pdf = point.pdf();
     if is_proper(pdf) {
         return Newton::Move(survival_step(survival, probability, pdf));
     }
     Newton::Refused
 }
 
-fn survival_rounds(start: Bracket, guess: f64, mu: f64, probability: f64, allowed: u64) -> Rooted
-    ensures { λ r. ⌜ rooted r ≡ limited allowed (survivalRounds mu probability start guess) ⌝ }
+fn survival_rounds(
+    start: Bracket,
+    guess: f64,
+    mu: f64,
+    probability: f64,
+    allowed: Allowance,
+) -> Quantile
+    ensures { λ r. ⌜ quantile r ≡ limited (allowed .left) (someOf (survivalRounds mu probability start guess)) ⌝ }
 {
     let mut bracket = start;
     let mut x = guess;
     let mut left = allowed;
     for _ in 0u32..64 {
-        let point = Point::at(x, mu);
-        match point.survival(left) {
-            Evaluation::Spent => return Rooted::Spent,
-            Evaluation::Value(survival, rest) => {
+        match inverse_gaussian_survival(x, mu, left) {
+            Evaluation::Spent => return Quantile::Spent,
+            Evaluation::Value {
+                value: survival,
+                pdf,
+                rest,
+            } => {
                 left = rest;
-                match bracket.survival_round(point, survival, probability) {
-                    Rounded::Root(root) => return Rooted::Root(root, left),
+                match bracket.survival_round(x, survival, pdf, probability) {
+                    Rounded::Root(root) => return Quantile::Root(root, left),
                     Rounded::Again(b, next) => {
                         bracket = b;
                         x = next;
@@ -213,26 +229,32 @@ fn survival_rounds(start: Bracket, guess: f64, mu: f64, probability: f64, allowe
             }
         }
     }
-    Rooted::Root(bracket_midpoint(bracket), left)
+    Quantile::Root(bracket_midpoint(bracket), left)
 }
 
-pub fn inverse_gaussian_quantile_from_survival(probability: f64, mu: f64, allowed: u64) -> Quantile
-    ensures { λ r. ⌜ quantile r ≡ limited allowed (inverseGaussianQuantileFromSurvival probability mu) ⌝ }
+pub fn inverse_gaussian_quantile_from_survival(
+    probability: f64,
+    mu: f64,
+    allowed: Allowance,
+) -> Quantile
+    ensures { λ r. ⌜ quantile r ≡ limited (allowed .left) (inverseGaussianQuantileFromSurvival probability mu) ⌝ }
 {
     if !is_solvable(probability, mu) {
         return Quantile::None(allowed);
     }
     let z = -inverse_norm_cdf(probability);
     let x = starting_point(inverse_gaussian_quantile_initial_guess_from_z(z, mu), mu);
-    let Evaluation::Value(survival, left) = inverse_gaussian_survival(x, mu, allowed) else {
+    let Evaluation::Value {
+        value: survival,
+        pdf: _,
+        rest,
+    } = inverse_gaussian_survival(x, mu, allowed)
+    else {
         return Quantile::Spent;
     };
-    match survival_bracket_at(x, survival, mu, probability, left) {
-        Reach::Found(bracket, rest) => {
-            let rooted = survival_rounds(bracket, x, mu, probability, rest);
-            rooted.quantile()
-        }
-        Reach::None(rest) => Quantile::None(rest),
+    match survival_bracket_at(x, survival, mu, probability, rest) {
+        Reach::Found(bracket, left) => survival_rounds(bracket, x, mu, probability, left),
+        Reach::None(left) => Quantile::None(left),
         Reach::Spent => Quantile::Spent,
     }
 }

@@ -4,4 +4,5 @@ pub mod Polynomial
 pub mod ErrorFunction
 pub mod NormalDistribution
 pub mod Erfinv
+pub mod Shared
 pub mod Laws

@@ -1,5 +1,6 @@
 // The normal distribution: density, cumulative probability and its inverse.
 ghost use mathlib.Core.Path.{_≡_};
+ghost use Rattle.special_function.specs.Shared.{same, normPdfOfSquare};
 ghost use Rattle.special_function.specs.NormalDistribution.{normPdf, next, goesOn, asymptoticSum, normCdf, inverseNormCdfmHalfForMidrangeProbabilities, inverseNormCdfForLowProbabilities, inverseNormCdf};
 use crate::constants::EPSILON;
 use crate::constants::FRAC_1_SQRT_2;
@@ -18,6 +19,28 @@ pub fn norm_pdf(x2: f64) -> f64
     ensures { λ r. ⌜ r ≡ normPdf x2 ⌝ }
 {
     FRAC_SQRT_2_PI * exp(-0.5 * x2)
+}
+
+// Equal numbers with equal bits.
+fn is_same(x: f64, y: f64) -> bool
+    ensures { λ r. ⌜ r ≡ same x y ⌝ }
+{
+    if x == y {
+        f64::to_bits(x) == f64::to_bits(y)
+    } else {
+        false
+    }
+}
+
+// norm_pdf(a * a) for a caller that has exp(-0.5 * a * a), which is used where its argument is the number -0.5 * (a * a):
+// that can fail only where a product underflows or overflows.
+pub fn norm_pdf_of_square(a: f64, exponential: f64) -> f64
+    ensures { λ r. ⌜ r ≡ normPdfOfSquare a exponential ⌝ }
+{
+    if is_same(-0.5 * (a * a), -0.5 * a * a) {
+        return FRAC_SQRT_2_PI * exponential;
+    }
+    norm_pdf(a * a)
 }
 
 // Where the asymptotic expansion of `norm_cdf` stands: its sum, the factor of the next term, that

@@ -1,13 +1,32 @@
 -- `curves::inverse_gaussian_cdf` meets its contract. Assumes nothing.
-use Rattle.explicit_black.proofs.Points.{own, cdf-at}
+use borrow.Author.Needs.{needs}
+use Rattle.special_function.specs.Shared.{pdf-of-square}
+use Rattle.explicit_black.specs.Curves.{inverseGaussianCdf, inverseGaussianPdf}
+use Rattle.explicit_black.specs.LawsCounted.{tick-some, tick-none}
 use Rattle.explicit_black.proofs.curves.inverse_gaussian_cdf.Statement.{statement}
 use Rattle.explicit_black.proofs.curves.inverse_gaussian_cdf.Tie as tie
 
-cdf-requires : tie.Need-cdf-requires
-cdf-requires c κs = own _ _ _ (c .at .ensures)
-
 returns : tie.Need-returns
-returns c = cdf-at _ _ _ (c .before .at .ensures) _ _ (c .cdf .ensures)
+returns c = tick-none _ _ (c .if1 .taken)
+
+returns-2 : tie.Need-returns-2
+unfolding inverseGaussianCdf inverseGaussianPdf
+returns-2 c =
+    let at-norm-cdf = c .before .before .before in
+    let at-recip = at-norm-cdf .before .before in
+    let at-sqrt = at-recip .before in
+    tick-some _ _ _ (at-sqrt .before .if1 .left)
+    (rw (
+      c .before .norm-pdf-of-square .ensures,
+      c .before .before .erfcx-cody .ensures,
+      at-norm-cdf .norm-cdf .ensures,
+      at-norm-cdf .before .exp .ensures,
+      at-recip .recip .ensures,
+      at-sqrt .sqrt .ensures,
+      pdf-of-square,
+    ))
 
 pub inverse-gaussian-cdf-spec : {M : Type 1} → statement M
-inverse-gaussian-cdf-spec = tie.close (tie.spec (λ c κs. tt) cdf-requires returns)
+inverse-gaussian-cdf-spec =
+    tie.close
+    (tie.spec returns (λ c κs. tt) (λ c κs. tt) (λ c κs. tt) (λ c κs. tt) (λ c κs. tt) (λ c κs. tt) (λ c. search needs) returns-2)

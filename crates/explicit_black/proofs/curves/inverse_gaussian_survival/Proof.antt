@@ -1,13 +1,36 @@
 -- `curves::inverse_gaussian_survival` meets its contract. Assumes nothing.
-use Rattle.explicit_black.proofs.Points.{own, survival-at}
+use borrow.Author.Needs.{needs}
+use mathlib.Core.Path.{sym}
+use lib.Ieee.{binary64}
+use Rattle.arithmetic.specs.Sqrt.{sqrt}
+use Rattle.arithmetic.specs.Laws.Identities.{div-neg}
+use Rattle.explicit_black.specs.Curves.{inverseGaussianSurvival, inverseGaussianPdf}
+use Rattle.explicit_black.specs.LawsCounted.{tick-some, tick-none}
 use Rattle.explicit_black.proofs.curves.inverse_gaussian_survival.Statement.{statement}
 use Rattle.explicit_black.proofs.curves.inverse_gaussian_survival.Tie as tie
 
-survival-requires : tie.Need-survival-requires
-survival-requires c κs = own _ _ _ (c .at .ensures)
-
 returns : tie.Need-returns
-returns c = survival-at _ _ _ (c .before .at .ensures) _ _ (c .survival .ensures)
+returns c = tick-none _ _ (c .if1 .taken)
+
+returns-2 : tie.Need-returns-2
+unfolding inverseGaussianSurvival inverseGaussianPdf
+returns-2 c =
+    let at-black = c .before .before .before in
+    let at-recip = at-black .before .before in
+    let at-sqrt = at-recip .before in
+    let at-test = at-sqrt .before in
+    tick-some _ _ _ (at-test .if1 .left)
+    (rw (
+      c .before .norm-pdf .ensures,
+      c .before .before .exp .ensures,
+      at-black .normalised-black .ensures,
+      at-black .before .recip2 .ensures,
+      at-recip .recip .ensures,
+      at-sqrt .sqrt .ensures,
+      sym (div-neg binary64 (sqrt (at-test .before .before .args .x)) (at-test .before .before .args .mu)),
+    ))
 
 pub inverse-gaussian-survival-spec : {M : Type 1} → statement M
-inverse-gaussian-survival-spec = tie.close (tie.spec (λ c κs. tt) survival-requires returns)
+inverse-gaussian-survival-spec =
+    tie.close
+    (tie.spec returns (λ c κs. tt) (λ c κs. tt) (λ c κs. tt) (λ c κs. tt) (λ c κs. tt) (λ c κs. tt) (λ c. search needs) returns-2)

@@ -1,30 +1,29 @@
 -- `newton::inverse_gaussian_quantile_actuar` meets its contract. Assumes nothing.
+use borrow.Author.Needs.{needs}
 use mathlib.Core.Path.{sym, ap, _∙_}
 use Rattle.explicit_black.specs.Meanings.{evaluated}
-use Rattle.explicit_black.proofs.Points.{own, cdf-at, step-at}
 use Rattle.explicit_black.proofs.Searches.{no-step, from-step}
-use borrow.Author.Needs.{needs}
 use Rattle.explicit_black.proofs.newton.inverse_gaussian_quantile_actuar.Statement.{
   statement,
 }
 use Rattle.explicit_black.proofs.newton.inverse_gaussian_quantile_actuar.Tie as tie
 
-cdf-requires : tie.Need-cdf-requires
-cdf-requires c κs = own _ _ _ (c .at .ensures)
-
-pdf-requires : tie.Need-pdf-requires
-pdf-requires c κs = own _ _ _ (c .before .before .before .before .at .ensures)
-
 returns : tie.Need-returns
-returns c = no-step _ _ _ _ (sym (ap evaluated (c .enum-told .given .1)) ∙ cdf-at _ _ _ (c .before .before .before .at .ensures) _ _ (c .before .before .cdf .ensures))
+returns c = no-step _ _ _ _ (sym (ap evaluated (c .enum-told .given .1)) ∙ c .before .before .inverse-gaussian-cdf .ensures)
 
 returns-2 : tie.Need-returns-2
 returns-2 c =
-    from-step _ _ _ _ _ _ _ _ _ _ (c .before .before .before .before .before .before .before .before .before .before .ln .ensures) (c .before .before .before .before .before .before .before .before .before .start .ensures) (sym (ap evaluated (c .before .before .before .before .before .cdf2 .given .1)) ∙ cdf-at _ _ _ (c .before .before .before .before .before .before .before .before .at .ensures) _ _ (c .before .before .before .before .before .before .before .cdf .ensures))
-    (step-at _ _ _ (c .before .before .before .before .before .before .before .before .at .ensures) _ _ _ _ _ (c .before .before .before .pdf .ensures) (c .before .before .inverse-gaussian-nrstep-standardized .ensures)) (c .before .first .ensures) (c .steps .ensures)
+    let at-first = c .before in
+    let at-numerator = at-first .before .before in
+    let at-value = at-numerator .before .before in
+    let at-cdf = at-value .before .before in
+    let at-start = at-cdf .before in
+    from-step _ _ _ _ _ _ _ _ _ _ _ _ (at-start .before .ln .ensures) (at-start .start .ensures)
+    (sym (ap evaluated (at-value .cdf .given .1)) ∙ at-cdf .inverse-gaussian-cdf .ensures)
+    (at-numerator .numerator .ensures) (at-first .before .nrstep .ensures) (at-first .first .ensures) (c .steps .ensures)
 
 pub inverse-gaussian-quantile-actuar-spec : {M : Type 1} → statement M
 inverse-gaussian-quantile-actuar-spec =
     tie.close
-    (tie.spec (λ c κs. tt) (λ c κs. tt) (λ c κs. tt) cdf-requires (λ c. search needs) (λ c. search needs) pdf-requires
-    (λ c κs. tt) (λ c κs. tt) (λ c κs. tt) returns returns-2)
+    (tie.spec (λ c κs. tt) (λ c κs. tt) (λ c κs. tt) (λ c. search needs) (λ c. search needs) (λ c κs. tt) (λ c κs. tt)
+    (λ c κs. tt) (λ c κs. tt) returns returns-2)

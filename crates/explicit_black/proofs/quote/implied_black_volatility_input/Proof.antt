@@ -6,11 +6,15 @@ use Rattle.explicit_black.proofs.quote.implied_black_volatility_input.S
 use Rattle.explicit_black.proofs.quote.implied_black_volatility_input.Tie as tie
 
 reply-requires : tie.Need-reply-requires
-reply-requires c κs = (c .sqrt .ensures, enough-within 2263 _ _ (c .before .input-outcome .ensures) (input-count _ _ _ _ _))
+reply-requires c κs =
+    let at-outcome = c .before in
+    (c .sqrt .ensures, enough-within 2263 _ _ (rw (at-outcome .before .new .ensures) at (at-outcome .input-outcome .ensures)) (input-count _ _ _ _ _))
 
 returns : tie.Need-returns
 unfolding impliedBlackVolatilityInput
-returns c = c .reply .ensures _ (c .before .before .input-outcome .ensures)
+returns c =
+    let at-outcome = c .before .before in
+    c .reply .ensures _ (rw (at-outcome .before .new .ensures) at (at-outcome .input-outcome .ensures))
 
 pub implied-black-volatility-input-spec : {M : Type 1} → statement M
-implied-black-volatility-input-spec = tie.close (tie.spec (λ c κs. tt) (λ c κs. tt) reply-requires returns)
+implied-black-volatility-input-spec = tie.close (tie.spec (λ c κs. tt) (λ c κs. tt) (λ c κs. tt) reply-requires returns)

@@ -13,13 +13,17 @@ unfolding impliedBlackVolatilityNormalised
 returns c = rw (denied _ _ (c .before .are-finite .ensures) (c .if1 .taken))
 
 reply-requires : tie.Need-reply-requires
-reply-requires c κs = (root-one, enough-within 2263 _ _ (c .normalised-outcome .ensures) (normalised-count _ _))
+reply-requires c κs = (root-one, enough-within 2263 _ _ (rw (c .before .new .ensures) at (c .normalised-outcome .ensures)) (normalised-count _ _))
 
 returns-2 : tie.Need-returns-2
 unfolding impliedBlackVolatilityNormalised
-returns-2 c = rw (affirmed _ _ (c .before .before .before .are-finite .ensures) (c .before .before .if1 .left)) (c .reply .ensures _ (c .before .normalised-outcome .ensures))
+returns-2 c =
+    let at-outcome = c .before in
+    let at-test = at-outcome .before .before in
+    rw (affirmed _ _ (at-test .before .are-finite .ensures) (at-test .if1 .left))
+    (c .reply .ensures _ (rw (at-outcome .before .new .ensures) at (at-outcome .normalised-outcome .ensures)))
 
 pub implied-black-volatility-normalised-spec : {M : Type 1} → statement M
 implied-black-volatility-normalised-spec =
     tie.close
-    (tie.spec (λ c κs. tt) returns (λ c κs. tt) reply-requires returns-2)
+    (tie.spec (λ c κs. tt) returns (λ c κs. tt) (λ c κs. tt) reply-requires returns-2)

@@ -1,45 +1,53 @@
--- `survival::from_above` meets its contract. The invariant: what the definition gives for what was allowed is what it gives from here for what is left;
--- and from here it ends within its turns.
--- The measure is what is left. Assumes nothing.
+-- `survival::from_above` meets its contract. The invariant: what the definition gives for what was allowed is what it gives from
+-- here for what is left; and from here it ends within its turns. The measure is what is left. Assumes nothing.
 use borrow.Author.Needs.{needs}
 use mathlib.Core.Path.{sym, ap, _∙_}
 use Rattle.explicit_black.specs.Counted.{limited}
 use Rattle.explicit_black.specs.Bracket.{halvings}
 use Rattle.explicit_black.specs.Survival.{survivalHalving, survivalFromAbove}
 use Rattle.explicit_black.specs.Meanings.{evaluated, widening}
-use Rattle.explicit_black.specs.LawsCounted.{Carried, carried, carried-at, carried-turn, carried-spent, carried-stop, fewer}
+use Rattle.explicit_black.specs.LawsCounted.{Carried, carried, carried-at, carried-turn, carried-spent, carried-stop, some-spent, some-have, fewer}
 use Rattle.explicit_black.proofs.Halving.{survival-ends-above}
 use Rattle.explicit_black.proofs.survival.from_above.Statement.{statement}
 use Rattle.explicit_black.proofs.survival.from_above.Tie as tie
 
 abbrev Inv-loop : tie.InvT-loop
-Inv-loop initial mu probability allowed trial₀ left₀ trial left =
-    Carried (survivalHalving mu probability) halvings (limited allowed (survivalFromAbove initial mu probability)) left (widening trial)
+Inv-loop initial mu probability trial₀ left₀ trial left =
+    Carried (survivalHalving mu probability) halvings (limited (left₀ .left) (survivalFromAbove initial mu probability)) (left .left) (widening trial)
 
 abbrev μ-loop : tie.MeasureT-loop
-μ-loop initial mu probability allowed trial₀ left₀ trial left = left
+μ-loop initial mu probability trial₀ left₀ trial left = left .left
 
 loop-holds : tie.Need-loop-holds Inv-loop μ-loop
 unfolding survivalFromAbove
 loop-holds c =
-    let a = c .before .args in
-    rw (c .halved .ensures) (carried (survival-ends-above (a .mu) (a .probability) (a .initial) (c .before .pre) (c .before .good .0 .1)))
+    let start = c .before in
+    rw (c .halved .ensures)
+    (carried (survival-ends-above (start .args .mu) (start .args .probability) (start .args .initial) (start .pre) (start .good .0 .1)))
 
 returns : tie.Need-returns Inv-loop μ-loop
-returns c = sym (carried-stop (carried-at (c .before .before .before .loop .inv) (ap widening (c .before .trial .given .1))))
+returns c = some-have _ _ _ _ (sym (carried-stop (carried-at (c .before .before .before .loop .inv) (ap widening (c .before .trial .given .1)))))
 
 returns-2 : tie.Need-returns-2 Inv-loop μ-loop
 returns-2 c =
-    carried-spent _ (carried-at (c .before .before .before .before .before .before .loop .inv) (ap widening (c .before .before .before .before .trial2 .given .1)))
-    (sym (ap evaluated (c .enum-told .given .1)) ∙ c .before .before .inverse-gaussian-survival .ensures)
+    let at-survival = c .before .before in
+    let at-trial = at-survival .before .before in
+    some-spent _ _
+    (carried-spent _ (carried-at (at-trial .before .before .loop .inv) (ap widening (at-trial .trial2 .given .1)))
+    (sym (ap evaluated (c .enum-told .given .1)) ∙ at-survival .inverse-gaussian-survival .ensures))
 
 loop-less : tie.Need-loop-less Inv-loop μ-loop
-loop-less c = fewer _ _ _ _ (sym (ap evaluated (c .before .before .survival .given .1)) ∙ c .before .before .before .before .inverse-gaussian-survival .ensures)
+loop-less c =
+    let at-value = c .before .before in
+    fewer _ (sym (ap evaluated (at-value .survival .given .1)) ∙ at-value .before .before .inverse-gaussian-survival .ensures)
 
 loop-again : tie.Need-loop-again Inv-loop μ-loop
 loop-again c =
-    carried-turn _ (carried-at (c .before .before .before .before .before .before .before .before .loop .inv) (ap widening (c .before .before .before .before .before .before .trial2 .given .1)))
-    (sym (ap evaluated (c .before .before .survival .given .1)) ∙ c .before .before .before .before .inverse-gaussian-survival .ensures) (sym (c .survival-lowered .ensures))
+    let at-value = c .before .before in
+    let at-survival = at-value .before .before in
+    let at-trial = at-survival .before .before in
+    carried-turn _ (carried-at (at-trial .before .before .loop .inv) (ap widening (at-trial .trial2 .given .1)))
+    (sym (ap evaluated (at-value .survival .given .1)) ∙ at-survival .inverse-gaussian-survival .ensures) (sym (c .survival-lowered .ensures))
 
 pub from-above-spec : {M : Type 1} → statement M
 from-above-spec =

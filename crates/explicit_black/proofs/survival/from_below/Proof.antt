@@ -1,6 +1,5 @@
--- `survival::from_below` meets its contract. The invariant: what the definition gives for what was allowed is what it gives from here for what is left;
--- and from here it ends within its turns.
--- The measure is what is left. Assumes nothing.
+-- `survival::from_below` meets its contract. The invariant: what the definition gives for what was allowed is what it gives from
+-- here for what is left; and from here it ends within its turns. The measure is what is left. Assumes nothing.
 use borrow.Author.Needs.{needs}
 use mathlib.Core.Path.{sym, ap, _∙_}
 use Rattle.explicit_black.specs.Counted.{limited}
@@ -14,38 +13,53 @@ use Rattle.explicit_black.proofs.survival.from_below.Statement.{stateme
 use Rattle.explicit_black.proofs.survival.from_below.Tie as tie
 
 abbrev Inv-loop : tie.InvT-loop
-Inv-loop initial mu probability allowed bracket₀ left₀ bracket left =
-    Carried (survivalDoubling mu probability) doublings (limited allowed (survivalFromBelow initial mu probability)) left (go bracket)
+Inv-loop initial mu probability bracket₀ left₀ bracket left =
+    Carried (survivalDoubling mu probability) doublings (limited (left₀ .left) (survivalFromBelow initial mu probability)) (left .left) (go bracket)
 
 abbrev μ-loop : tie.MeasureT-loop
-μ-loop initial mu probability allowed bracket₀ left₀ bracket left = left
+μ-loop initial mu probability bracket₀ left₀ bracket left = left .left
 
 loop-holds : tie.Need-loop-holds Inv-loop μ-loop
 unfolding survivalFromBelow
 loop-holds c =
-    let a = c .before .args in
-    rw (c .capped-from .ensures) (carried (survival-ends-below (a .mu) (a .probability) (a .initial) (c .before .pre) (c .before .good .0 .1)))
+    let start = c .before in
+    rw (c .capped-from .ensures)
+    (carried (survival-ends-below (start .args .mu) (start .args .probability) (start .args .initial) (start .pre) (start .good .0 .1)))
 
 returns : tie.Need-returns Inv-loop μ-loop
-returns c = carried-spent _ (c .before .before .before .loop .inv) (sym (ap evaluated (c .enum-told .given .1)) ∙ c .before .before .inverse-gaussian-survival .ensures)
+returns c =
+    let at-survival = c .before .before in
+    carried-spent _ (at-survival .before .loop .inv) (sym (ap evaluated (c .enum-told .given .1)) ∙ at-survival .inverse-gaussian-survival .ensures)
 
 returns-2 : tie.Need-returns-2 Inv-loop μ-loop
 returns-2 c =
-    sym (carried-stop (carried-turn _ (c .before .before .before .before .before .before .before .before .loop .inv) (sym (ap evaluated (c .before .before .before .before .before .survival .given .1)) ∙ c .before .before .before .before .before .before .before .inverse-gaussian-survival .ensures)
-    (sym (c .before .before .before .survival-widened .ensures) ∙ ap doubling (c .before .b .given .1))))
+    let at-widened = c .before .before .before in
+    let at-value = at-widened .before .before in
+    let at-survival = at-value .before .before in
+    sym (carried-stop (carried-turn _ (at-survival .before .loop .inv) (sym (ap evaluated (at-value .survival .given .1)) ∙ at-survival .inverse-gaussian-survival .ensures)
+    (sym (at-widened .survival-widened .ensures) ∙ ap doubling (c .before .b .given .1))))
 
 returns-3 : tie.Need-returns-3 Inv-loop μ-loop
 returns-3 c =
-    sym (carried-stop (carried-turn _ (c .before .before .before .before .before .before .before .loop .inv) (sym (ap evaluated (c .before .before .before .before .survival .given .1)) ∙ c .before .before .before .before .before .before .inverse-gaussian-survival .ensures)
-    (sym (c .before .before .survival-widened .ensures) ∙ ap doubling (c .enum-told2 .given .1))))
+    let at-widened = c .before .before in
+    let at-value = at-widened .before .before in
+    let at-survival = at-value .before .before in
+    sym (carried-stop (carried-turn _ (at-survival .before .loop .inv) (sym (ap evaluated (at-value .survival .given .1)) ∙ at-survival .inverse-gaussian-survival .ensures)
+    (sym (at-widened .survival-widened .ensures) ∙ ap doubling (c .enum-told2 .given .1))))
 
 loop-less : tie.Need-loop-less Inv-loop μ-loop
-loop-less c = fewer _ _ _ _ (sym (ap evaluated (c .before .before .before .before .before .survival .given .1)) ∙ c .before .before .before .before .before .before .before .inverse-gaussian-survival .ensures)
+loop-less c =
+    let at-value = c .before .before .before .before .before in
+    let at-survival = at-value .before .before in
+    fewer _ (sym (ap evaluated (at-value .survival .given .1)) ∙ at-survival .inverse-gaussian-survival .ensures)
 
 loop-again : tie.Need-loop-again Inv-loop μ-loop
 loop-again c =
-    carried-turn _ (c .before .before .before .before .before .before .before .before .loop .inv) (sym (ap evaluated (c .before .before .before .before .before .survival .given .1)) ∙ c .before .before .before .before .before .before .before .inverse-gaussian-survival .ensures)
-    (sym (c .before .before .before .survival-widened .ensures) ∙ ap doubling (c .before .b2 .given .1))
+    let at-widened = c .before .before .before in
+    let at-value = at-widened .before .before in
+    let at-survival = at-value .before .before in
+    carried-turn _ (at-survival .before .loop .inv) (sym (ap evaluated (at-value .survival .given .1)) ∙ at-survival .inverse-gaussian-survival .ensures)
+    (sym (at-widened .survival-widened .ensures) ∙ ap doubling (c .before .b2 .given .1))
 
 pub from-below-spec : {M : Type 1} → statement M
 from-below-spec =

@@ -8,55 +8,61 @@ use Rattle.explicit_black.specs.Counted.{limited}
 use Rattle.explicit_black.specs.Loops.{go}
 use Rattle.explicit_black.specs.Survival.{survivalRounding, survivalRounds}
 use Rattle.explicit_black.specs.Meanings.{evaluated, rounded}
-use Rattle.explicit_black.specs.LawsCounted.{Left, left-turn, left-spent, left-stop, left-out}
-use Rattle.explicit_black.proofs.Points.{own, survival-at, survival-round-at}
+use Rattle.explicit_black.specs.LawsCounted.{Left, left-spent, left-stop, left-out, some-spent, some-have}
+use Rattle.explicit_black.proofs.Searches.{survival-round-turn}
 use Rattle.explicit_black.proofs.survival.survival_rounds.Statement.{statement}
 use Rattle.explicit_black.proofs.survival.survival_rounds.Tie as tie
 
 abbrev Inv-loop : tie.InvT-loop
-Inv-loop guess mu probability allowed bracket₀ x₀ left₀ counter₀ bracket x left counter =
-    Left (survivalRounding mu probability) (64 - counter) (limited allowed (survivalRounds mu probability bracket₀ x₀)) left (go (bracket, x))
+Inv-loop guess mu probability bracket₀ x₀ left₀ counter₀ bracket x left counter =
+    Left (survivalRounding mu probability) (64 - counter) (limited (left₀ .left) (survivalRounds mu probability bracket₀ x₀)) (left .left) (go (bracket, x))
     × (counter ≤ 64)
 
 abbrev μ-loop : tie.MeasureT-loop
-μ-loop guess mu probability allowed bracket₀ x₀ left₀ counter₀ bracket x left counter = 64 - counter
+μ-loop guess mu probability bracket₀ x₀ left₀ counter₀ bracket x left counter = 64 - counter
 
 loop-holds : tie.Need-loop-holds Inv-loop μ-loop
 unfolding survivalRounds
 loop-holds c = (record { same = refl }, omega arith)
 
-survival-requires : tie.Need-survival-requires Inv-loop μ-loop
-survival-requires c κs = own _ _ _ (c .at .ensures)
-
 returns : tie.Need-returns Inv-loop μ-loop
 returns c =
-    left-spent (64 - (c .before .before .before .before .before .loop .counter + 1)) _ (c .before .before .before .before .before .loop .inv .0) (omega arith)
-    (sym (ap evaluated (c .enum-told .given .1)) ∙ survival-at _ _ _ (c .before .before .before .at .ensures) _ _ (c .before .before .survival .ensures))
-
-survival-round-requires : tie.Need-survival-round-requires Inv-loop μ-loop
-survival-round-requires c κs = own _ _ _ (c .before .before .before .before .at .ensures)
+    let at-survival = c .before .before in
+    let at-loop = at-survival .before .before in
+    some-spent _ _
+    (left-spent (64 - (at-loop .loop .counter + 1)) _ (at-loop .loop .inv .0) (omega arith)
+    (sym (ap evaluated (c .enum-told .given .1)) ∙ at-survival .inverse-gaussian-survival .ensures))
 
 returns-2 : tie.Need-returns-2 Inv-loop μ-loop
 returns-2 c =
-    let n : Left _ (64 - (c .before .before .before .before .before .before .before .before .before .before .loop .counter + 1)) _ _ _ =
-    left-turn _ (c .before .before .before .before .before .before .before .before .before .before .loop .inv .0) (omega arith) (sym (ap evaluated (c .before .before .before .before .before .survival2 .given .1)) ∙ survival-at _ _ _ (c .before .before .before .before .before .before .before .before .at .ensures) _ _ (c .before .before .before .before .before .before .before .survival .ensures))
-    (sym (survival-round-at _ _ _ (c .before .before .before .before .before .before .before .before .at .ensures) _ _ _ _ (c .before .before .before .survival-round .ensures)) ∙ ap rounded (c .before .root .given .1)) in
-    sym (left-stop n)
+    let at-round = c .before .before .before in
+    let at-value = at-round .before .before in
+    let at-survival = at-value .before .before in
+    let at-loop = at-survival .before .before in
+    let n : Left _ (64 - (at-loop .loop .counter + 1)) _ _ _ =
+    survival-round-turn _ _ _ _ (at-loop .loop .inv .0) (omega arith)
+    (sym (ap evaluated (at-value .survival .given .1)) ∙ at-survival .inverse-gaussian-survival .ensures) (at-round .survival-round .ensures) (ap rounded (c .before .root .given .1)) in
+    some-have _ _ _ _ (sym (left-stop n))
 
 loop-again : tie.Need-loop-again Inv-loop μ-loop
-loop-again c = (
-  left-turn _ (c .before .before .before .before .before .before .before .before .before .before .loop .inv .0) (omega arith) (sym (ap evaluated (c .before .before .before .before .before .survival2 .given .1)) ∙ survival-at _ _ _ (c .before .before .before .before .before .before .before .before .at .ensures) _ _ (c .before .before .before .before .before .before .before .survival .ensures)) (sym (survival-round-at _ _ _ (c .before .before .before .before .before .before .before .before .at .ensures) _ _ _ _ (c .before .before .before .survival-round .ensures)) ∙ ap rounded (c .before .b .given .1)),
-  omega arith,
-)
+loop-again c =
+    let at-round = c .before .before .before in
+    let at-value = at-round .before .before in
+    let at-survival = at-value .before .before in
+    let at-loop = at-survival .before .before in (
+      survival-round-turn _ _ _ _ (at-loop .loop .inv .0) (omega arith)
+          (sym (ap evaluated (at-value .survival .given .1)) ∙ at-survival .inverse-gaussian-survival .ensures) (at-round .survival-round .ensures) (ap rounded (c .before .b .given .1)),
+      omega arith,
+    )
 
 returns-3 : tie.Need-returns-3 Inv-loop μ-loop
 returns-3 c =
     let i = c .before .before .loop .inv in
-    rw (c .bracket-midpoint .ensures) (sym (left-out (i .0) (omega arith)))
+    rw (c .bracket-midpoint .ensures) (some-have _ _ _ _ (sym (left-out (i .0) (omega arith))))
 
 pub survival-rounds-spec : {M : Type 1} → statement M
 survival-rounds-spec =
     tie.close
-    (tie.spec Inv-loop μ-loop loop-holds (λ c κs. tt) survival-requires (λ c. search needs) returns
-    (λ c. search needs) survival-round-requires (λ c. search needs) returns-2 (λ c. search needs) (λ c. omega arith)
-    (λ c. omega arith) loop-again (λ c κs. tt) returns-3)
+    (tie.spec Inv-loop μ-loop loop-holds (λ c κs. tt) (λ c. search needs) returns (λ c. search needs) (λ c κs. tt)
+    (λ c. search needs) returns-2 (λ c. search needs) (λ c. omega arith) (λ c. omega arith) loop-again (λ c κs. tt)
+    returns-3)

@@ -1,5 +1,4 @@
 -- `bracket::Bracket::survival_round` meets its contract. Assumes nothing.
-use borrow.Author.Needs.{needs}
 use mathlib.Core.Path.{sym, _∙_}
 use Rattle.explicit_black.specs.Survival.{survivalRound, survivalTightOr}
 use Rattle.explicit_black.proofs.bracket.Bracket.survival_round.Statement.{statement}
@@ -20,4 +19,4 @@ returns-3 c = rw (c .survival-moved .ensures, c .before .before .before .before 
 pub survival-round-spec : {M : Type 1} → statement M
 survival-round-spec =
     tie.close
-    (tie.spec returns (λ c κs. tt) (λ c κs. tt) (λ c κs. tt) returns-2 (λ c κs. search needs) (λ c κs. tt) returns-3)
+    (tie.spec returns (λ c κs. tt) (λ c κs. tt) (λ c κs. tt) returns-2 (λ c κs. tt) (λ c κs. tt) returns-3)

@@ -1,8 +1,8 @@
--- `curves::starting_point` meets its contract. Assumes nothing.
+-- `initial_guess::starting_point` meets its contract. Assumes nothing.
 use mathlib.Core.Path.{sym, _∙_}
 use Rattle.explicit_black.specs.Curves.{startingPoint}
-use Rattle.explicit_black.proofs.curves.starting_point.Statement.{statement}
-use Rattle.explicit_black.proofs.curves.starting_point.Tie as tie
+use Rattle.explicit_black.proofs.initial_guess.starting_point.Statement.{statement}
+use Rattle.explicit_black.proofs.initial_guess.starting_point.Tie as tie
 
 returns : tie.Need-returns
 unfolding startingPoint

@@ -1,9 +1,9 @@
--- `curves::inverse_gaussian_quantile_initial_guess` meets its contract. Assumes nothing.
+-- `initial_guess::inverse_gaussian_quantile_initial_guess` meets its contract. Assumes nothing.
 use Rattle.explicit_black.specs.Curves.{inverseGaussianQuantileInitialGuess}
-use Rattle.explicit_black.proofs.curves.inverse_gaussian_quantile_initial_guess.Statement.{
+use Rattle.explicit_black.proofs.initial_guess.inverse_gaussian_quantile_initial_guess.Statement.{
   statement,
 }
-use Rattle.explicit_black.proofs.curves.inverse_gaussian_quantile_initial_guess.Tie as tie
+use Rattle.explicit_black.proofs.initial_guess.inverse_gaussian_quantile_initial_guess.Tie as tie
 
 returns : tie.Need-returns
 unfolding inverseGaussianQuantileInitialGuess

@@ -1,8 +1,8 @@
--- `curves::is_proper` meets its contract. Assumes nothing.
+-- `initial_guess::is_proper` meets its contract. Assumes nothing.
 use mathlib.Core.Path.{sym, _∙_}
 use borrow.Author.Needs.{needs}
-use Rattle.explicit_black.proofs.curves.is_proper.Statement.{statement}
-use Rattle.explicit_black.proofs.curves.is_proper.Tie as tie
+use Rattle.explicit_black.proofs.initial_guess.is_proper.Statement.{statement}
+use Rattle.explicit_black.proofs.initial_guess.is_proper.Tie as tie
 
 returns : tie.Need-returns
 returns c = rw (sym (c .before .is-finite .ensures) ∙ c .if1 .taken)

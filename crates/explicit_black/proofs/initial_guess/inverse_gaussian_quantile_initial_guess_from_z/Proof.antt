@@ -1,9 +1,9 @@
--- `curves::inverse_gaussian_quantile_initial_guess_from_z` meets its contract. Assumes nothing.
+-- `initial_guess::inverse_gaussian_quantile_initial_guess_from_z` meets its contract. Assumes nothing.
 use Rattle.explicit_black.specs.Curves.{inverseGaussianQuantileInitialGuessFromZ}
-use Rattle.explicit_black.proofs.curves.inverse_gaussian_quantile_initial_guess_from_z.Statement.{
+use Rattle.explicit_black.proofs.initial_guess.inverse_gaussian_quantile_initial_guess_from_z.Statement.{
   statement,
 }
-use Rattle.explicit_black.proofs.curves.inverse_gaussian_quantile_initial_guess_from_z.Tie as tie
+use Rattle.explicit_black.proofs.initial_guess.inverse_gaussian_quantile_initial_guess_from_z.Tie as tie
 
 returns : tie.Need-returns
 unfolding inverseGaussianQuantileInitialGuessFromZ

@@ -1,5 +1,6 @@
 // The functions of the layers for C and Rust, on numbers and bytes.
-use explicit_black::counted::Evaluation;
+use explicit_black::curves::Allowance;
+use explicit_black::curves::Evaluation;
 use explicit_black::quote::Reply;
 use xdr_sheet::printing::Progress;
 use xdr_sheet::sheet::Asked;
@@ -135,8 +136,12 @@ fn value(evaluation: Evaluation) -> f64
     ensures { λ r. ⌜ r ≡ valueOf (evaluated evaluation) ⌝ }
 {
     match evaluation {
-        Evaluation::Value(value, _) => value,
-        // not reached
+        Evaluation::Value {
+            value,
+            pdf: _,
+            rest: _,
+        } => value,
+        // no case where one is allowed
         Evaluation::Spent => 0.0,
     }
 }
@@ -145,14 +150,14 @@ fn value(evaluation: Evaluation) -> f64
 pub extern "C" fn quoter_inverse_gaussian_cdf(x: f64, mu: f64) -> f64
     ensures { λ r. ⌜ r ≡ inverseGaussianCdf x mu ⌝ }
 {
-    value(explicit_black::curves::inverse_gaussian_cdf(x, mu, 1))
+    value(explicit_black::curves::inverse_gaussian_cdf(x, mu, Allowance::new(1)))
 }
 
 #[no_mangle]
 pub extern "C" fn quoter_inverse_gaussian_survival(x: f64, mu: f64) -> f64
     ensures { λ r. ⌜ r ≡ inverseGaussianSurvival x mu ⌝ }
 {
-    value(explicit_black::curves::inverse_gaussian_survival(x, mu, 1))
+    value(explicit_black::curves::inverse_gaussian_survival(x, mu, Allowance::new(1)))
 }
 
 // Writes a reply to the caller's places; a refusal writes no figure.

@@ -16,7 +16,8 @@ use arithmetic::mul_add::mul_add;
 use arithmetic::sqrt::sqrt;
 use bs_option_price::negative_abs_log_moneyness;
 use bs_option_price::normalised_black;
-use explicit_black::counted::Evaluation;
+use explicit_black::curves::Allowance;
+use explicit_black::curves::Evaluation;
 use explicit_black::curves::inverse_gaussian_cdf;
 use explicit_black::curves::inverse_gaussian_survival;
 use explicit_black::quote::Reply;
@@ -81,7 +82,11 @@ fn bs_option_price_of(number: u64, a: f64, b: f64, c: f64) -> Outcome {
 // The value of an evaluation that is allowed.
 fn allowed(evaluation: Evaluation) -> Outcome {
     match evaluation {
-        Evaluation::Value(value, _) => Outcome::Number(value),
+        Evaluation::Value {
+            value,
+            pdf: _,
+            rest: _,
+        } => Outcome::Number(value),
         Evaluation::Spent => Outcome::Unknown,
     }
 }
@@ -90,8 +95,8 @@ fn allowed(evaluation: Evaluation) -> Outcome {
 fn explicit_black_of(number: u64, a: f64, b: f64) -> Outcome {
     match number {
         19 => Outcome::Quoted(implied_black_volatility_normalised(a, b)),
-        20 => allowed(inverse_gaussian_cdf(a, b, 1)),
-        21 => allowed(inverse_gaussian_survival(a, b, 1)),
+        20 => allowed(inverse_gaussian_cdf(a, b, Allowance::new(1))),
+        21 => allowed(inverse_gaussian_survival(a, b, Allowance::new(1))),
         _ => Outcome::Unknown,
     }
 }

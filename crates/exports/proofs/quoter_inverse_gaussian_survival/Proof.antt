@@ -7,7 +7,9 @@ use Rattle.exports.proofs.quoter_inverse_gaussian_survival.Tie as tie
 
 returns : tie.Need-returns
 unfolding limited
-returns c = c .value .ensures ∙ ap valueOf (c .before .inverse-gaussian-survival .ensures)
+returns c =
+    let at-curve = c .before in
+    c .value .ensures ∙ ap valueOf (rw (at-curve .before .new .ensures) at (at-curve .inverse-gaussian-survival .ensures))
 
 pub quoter-inverse-gaussian-survival-spec : {M : Type 1} → statement M
-quoter-inverse-gaussian-survival-spec = tie.close (tie.spec (λ c κs. tt) (λ c κs. tt) returns)
+quoter-inverse-gaussian-survival-spec = tie.close (tie.spec (λ c κs. tt) (λ c κs. tt) (λ c κs. tt) returns)

@@ -56,15 +56,22 @@ fn layer2(function: u32, a: f64) -> f64 {
 mod layer4 {
     use crate::Reply;
     use ours::explicit_black::counted::Quantile;
-    use ours::explicit_black::curves::{Allowance, Evaluation};
+    use ours::explicit_black::curves::{Allowance, Evaluation, SurvivalEvaluation};
     use ours::explicit_black::{curves, quantile, survival};
 
     const ALLOWED: u64 = 2263;
 
     fn evaluation(result: Evaluation) -> Reply {
         match result {
-            Evaluation::Value { value, .. } => Reply::value(value),
+            Evaluation::Value { cdf, .. } => Reply::value(cdf),
             Evaluation::Spent => Reply::Spent,
+        }
+    }
+
+    fn survival_evaluation(result: SurvivalEvaluation) -> Reply {
+        match result {
+            SurvivalEvaluation::Value { survival, .. } => Reply::value(survival),
+            SurvivalEvaluation::Spent => Reply::Spent,
         }
     }
 
@@ -80,7 +87,7 @@ mod layer4 {
         let allowed = Allowance::new(ALLOWED);
         match function {
             20 => evaluation(curves::inverse_gaussian_cdf(a, b, allowed)),
-            21 => evaluation(curves::inverse_gaussian_survival(a, b, allowed)),
+            21 => survival_evaluation(curves::inverse_gaussian_survival(a, b, allowed)),
             22 => root(quantile::inverse_gaussian_quantile(a, b, allowed)),
             _ => root(survival::inverse_gaussian_quantile_from_survival(a, b, allowed)),
         }

@@ -52,8 +52,9 @@ module _ {k j n m : ℕ} {v d : Float} where
   round-turn mu p b x i f e g h = left-turn _ (λ pdf. round pdf p (b, x) v) i f e refl (sym g ∙ h)
 
   pub survival-round-turn : (mu p : Float) (b : Bracket) (x : Float) {a : Metered Float} {y r : Next (Bracket × Float) Float} → Left (survivalRounding mu p) k a n (go (b, x)) → k ≡ suc j
-      → have (sample v d) m ≡ limited n (tick (atOnce (sample (inverseGaussianSurvival x mu) (inverseGaussianPdf x mu)))) → r ≡ survivalRound d p (b, x) v → r ≡ y → Left (survivalRounding mu p) j a m y
-  survival-round-turn mu p b x i f e g h = left-turn _ (λ pdf. survivalRound pdf p (b, x) v) i f e refl (sym g ∙ h)
+      → have (sample v d) m ≡ limited n (tick (atOnce (sample (inverseGaussianSurvival x mu) (inverseGaussianPdf x mu)))) → {q : Float} → q ≡ d → r ≡ survivalRound q p (b, x) v → r ≡ y
+      → Left (survivalRounding mu p) j a m y
+  survival-round-turn mu p b x i f e o g h = left-turn _ (λ pdf. survivalRound pdf p (b, x) v) i f e refl (rw (← o) (sym g ∙ h))
 
 -- ---- `inverse_gaussian_quantile_actuar`
 

@@ -120,6 +120,13 @@ none-of {n = suc n} w e = cc
 pub fewer : {R : Type 0} {n m : ℕ} {v : R} (w : R) → have v m ≡ limited n (tick (atOnce w)) → m < n
 fewer w e = omega (arith, value-of e .1)
 
+-- the first of a number that is one
+pub first-value : {n m : ℕ} {v d w : Float} (q : Float) → n ≡ 1 → have (sample v d) m ≡ limited n (tick (atOnce (sample w q))) → v ≡ w
+first-value q h e = let o = value-of e .0 in cc
+
+pub first-spent : {n : ℕ} (w : Sample) → n ≡ 1 → spent ≡ limited n (tick (atOnce w)) → ⊥
+first-spent w h e = let z = none-of w e in omega arith
+
 -- ---- loops
 
 pub count-le : {S R : Type 0} (l : Loop S R) (k : ℕ) (n : Next S R) → iterate l k n .count ≤ k

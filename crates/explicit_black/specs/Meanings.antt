@@ -1,11 +1,15 @@
 -- What the code's enums say, in the types of the definitions. Definitions only.
 use lib.Ieee.{Float}
+use Rattle.arithmetic.specs.Operations.{_⊗_, _⊘_}
+use Rattle.special_function.specs.NormalDistribution.{normPdf}
 use Rattle.explicit_black.specs.declared.bracket.Bracket.{Bracket}
 use Rattle.explicit_black.specs.declared.bracket.Widening.{Widening}
 use Rattle.explicit_black.specs.declared.bracket.Widening.the-variants.{Reached, Wider}
 use Rattle.explicit_black.specs.declared.curves.Allowance.{Allowance}
 use Rattle.explicit_black.specs.declared.curves.Evaluation.{Evaluation}
 use Rattle.explicit_black.specs.declared.curves.Evaluation.the-variants.{Value, Spent as NoValue}
+use Rattle.explicit_black.specs.declared.curves.SurvivalEvaluation.{SurvivalEvaluation}
+use Rattle.explicit_black.specs.declared.curves.SurvivalEvaluation.the-variants.{Value as Survives, Spent as NoSurvival}
 use Rattle.explicit_black.specs.declared.counted.Reach.{Reach}
 use Rattle.explicit_black.specs.declared.counted.Reach.the-variants.{Found, None as Nowhere, Spent as NoReach}
 use Rattle.explicit_black.specs.declared.counted.Quantile.{Quantile}
@@ -23,10 +27,19 @@ use Rattle.explicit_black.specs.Loops.{Next, go, stop}
 
 -- ---- with how many evaluations are left
 
--- a curve's value and the density
+-- a value of the distribution and the density
 abbrev pub evaluated : Evaluation → Metered Sample
 evaluated (Value v pdf n) = have (sample v pdf) (n .left)
 evaluated NoValue = spent
+
+-- the density at x, from √x and a
+abbrev pub pdfFrom : Float → Float → Float → Float
+pdfFrom x sqrtX a = normPdf (a ⊗ a) ⊘ (x ⊗ sqrtX)
+
+-- a value of the survival probability at x and the density
+abbrev pub survivalEvaluated : Float → SurvivalEvaluation → Metered Sample
+survivalEvaluated x (Survives v sqrtX a n) = have (sample v (pdfFrom x sqrtX a)) (n .left)
+survivalEvaluated x NoSurvival = spent
 
 -- a bracket, or none
 abbrev pub reached : Reach → Metered (Option Bracket)

@@ -147,11 +147,7 @@ pub(crate) fn bracket_quantile_from_below(
     loop {
         match inverse_gaussian_cdf(bracket.upper, mu, left) {
             Evaluation::Spent => return Reach::Spent,
-            Evaluation::Value {
-                value: cdf,
-                pdf: _,
-                rest,
-            } => {
+            Evaluation::Value { cdf, pdf: _, rest } => {
                 left = rest;
                 match bracket.widened(cdf, probability) {
                     Widening::Reached(b) => return Reach::Found(b, left),
@@ -178,11 +174,7 @@ pub(crate) fn bracket_quantile_from_above(
             Widening::Reached(b) => return Reach::Found(b, left),
             Widening::Wider(b) => match inverse_gaussian_cdf(b.lower, mu, left) {
                 Evaluation::Spent => return Reach::Spent,
-                Evaluation::Value {
-                    value: cdf,
-                    pdf: _,
-                    rest,
-                } => {
+                Evaluation::Value { cdf, pdf: _, rest } => {
                     left = rest;
                     trial = b.lowered(cdf, probability);
                 }

@@ -11,7 +11,7 @@ use special_function::normal_distribution::norm_pdf;
 use special_function::normal_distribution::norm_pdf_of_square;
 ghost use mathlib.Core.Path.{_≡_};
 ghost use Rattle.explicit_black.specs.Counted.{sample, limited, tick, atOnce};
-ghost use Rattle.explicit_black.specs.Meanings.{evaluated};
+ghost use Rattle.explicit_black.specs.Meanings.{pdfFrom, evaluated, survivalEvaluated};
 ghost use Rattle.explicit_black.specs.Curves.{inverseGaussianSurvival, inverseGaussianCdf, inverseGaussianPdf};
 
 // How many evaluations are still allowed.
@@ -33,21 +33,30 @@ impl Allowance {
     }
 }
 
-// A curve's value and the density at the same point, with one evaluation fewer; or spent where none was allowed.
+// A value of the distribution, with the density at the same point and one evaluation fewer; or spent where none was
+// allowed.
 pub enum Evaluation {
+    Value { cdf: f64, pdf: f64, rest: Allowance },
+    Spent,
+}
+
+// A value of the survival probability, with what the density at the same point needs, √x and a, and one evaluation
+// fewer; or spent where none was allowed.
+pub enum SurvivalEvaluation {
     Value {
-        value: f64,
-        pdf: f64,
+        survival: f64,
+        sqrt_x: f64,
+        a: f64,
         rest: Allowance,
     },
     Spent,
 }
 
-pub fn inverse_gaussian_survival(x: f64, mu: f64, allowed: Allowance) -> Evaluation
-    ensures { λ r. ⌜ evaluated r ≡ limited (allowed .left) (tick (atOnce (sample (inverseGaussianSurvival x mu) (inverseGaussianPdf x mu)))) ⌝ }
+pub fn inverse_gaussian_survival(x: f64, mu: f64, allowed: Allowance) -> SurvivalEvaluation
+    ensures { λ r. ⌜ survivalEvaluated x r ≡ limited (allowed .left) (tick (atOnce (sample (inverseGaussianSurvival x mu) (inverseGaussianPdf x mu)))) ⌝ }
 {
     if allowed.left == 0 {
-        return Evaluation::Spent;
+        return SurvivalEvaluation::Spent;
     }
     let sqrt_x = sqrt(x);
     let inv_sqrt_x = recip(sqrt_x);
@@ -55,10 +64,10 @@ pub fn inverse_gaussian_survival(x: f64, mu: f64, allowed: Allowance) -> Evaluat
     let exponent = -recip(mu);
     // the Black price at these figures is the survival probability times exp(-1 / mu)
     let black = normalised_black(exponent, -leading, inv_sqrt_x);
-    let a = leading - inv_sqrt_x;
-    Evaluation::Value {
-        value: black / exp(exponent),
-        pdf: norm_pdf(a * a) / (x * sqrt_x),
+    SurvivalEvaluation::Value {
+        survival: black / exp(exponent),
+        sqrt_x: sqrt_x,
+        a: leading - inv_sqrt_x,
         rest: Allowance {
             left: allowed.left - 1,
         },
@@ -77,12 +86,19 @@ pub fn inverse_gaussian_cdf(x: f64, mu: f64, allowed: Allowance) -> Evaluation
     let a = leading - inv_sqrt_x;
     let reflected = leading + inv_sqrt_x;
     let exponential = exp(-0.5 * a * a);
-    let value = norm_cdf(a) + 0.5 * exponential * erfcx_cody(reflected * FRAC_1_SQRT_2);
+    let cdf = norm_cdf(a) + 0.5 * exponential * erfcx_cody(reflected * FRAC_1_SQRT_2);
     Evaluation::Value {
-        value: value,
+        cdf: cdf,
         pdf: norm_pdf_of_square(a, exponential) / (x * sqrt_x),
         rest: Allowance {
             left: allowed.left - 1,
         },
     }
+}
+
+// The density at x, where a is √x / mu - 1 / √x.
+pub fn inverse_gaussian_pdf(x: f64, sqrt_x: f64, a: f64) -> f64
+    ensures { λ r. ⌜ r ≡ pdfFrom x «sqrt_x» a ⌝ }
+{
+    norm_pdf(a * a) / (x * sqrt_x)
 }

@@ -149,11 +149,7 @@ fn steps(
             Stepped::Again(x, direction) => {
                 match inverse_gaussian_cdf(x * mu, mu, left) {
                     Evaluation::Spent => return Quantile::Spent,
-                    Evaluation::Value {
-                        value: cdf,
-                        pdf,
-                        rest,
-                    } => {
+                    Evaluation::Value { cdf, pdf, rest } => {
                         left = rest;
                         let error = numerator(cdf, probability, log_probability);
                         next = nrstep(mu * pdf, error).later(x, direction, mu);
@@ -172,11 +168,7 @@ pub fn inverse_gaussian_quantile_actuar(probability: f64, mu: f64, allowed: Allo
     let x = start(probability, log_probability, mu);
     match inverse_gaussian_cdf(x * mu, mu, allowed) {
         Evaluation::Spent => Quantile::Spent,
-        Evaluation::Value {
-            value: cdf,
-            pdf,
-            rest,
-        } => {
+        Evaluation::Value { cdf, pdf, rest } => {
             let error = numerator(cdf, probability, log_probability);
             let begin = nrstep(mu * pdf, error).first(x, mu);
             steps(begin, probability, log_probability, mu, rest)

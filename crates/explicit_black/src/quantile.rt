@@ -171,11 +171,7 @@ fn rounds(start: Bracket, guess: f64, mu: f64, probability: f64, allowed: Allowa
     for _ in 0u32..64 {
         match inverse_gaussian_cdf(x, mu, left) {
             Evaluation::Spent => return Quantile::Spent,
-            Evaluation::Value {
-                value: cdf,
-                pdf,
-                rest,
-            } => {
+            Evaluation::Value { cdf, pdf, rest } => {
                 left = rest;
                 match bracket.round(x, cdf, pdf, probability) {
                     Rounded::Root(root) => return Quantile::Root(root, left),
@@ -199,12 +195,7 @@ pub(crate) fn inverse_gaussian_quantile_bracketed(
     ensures { λ r. ⌜ quantile r ≡ limited (allowed .left) (someOf (inverseGaussianQuantileBracketed probability mu)) ⌝ }
 {
     let x = starting_point(inverse_gaussian_quantile_initial_guess(probability, mu), mu);
-    let Evaluation::Value {
-        value: cdf,
-        pdf: _,
-        rest,
-    } = inverse_gaussian_cdf(x, mu, allowed)
-    else {
+    let Evaluation::Value { cdf, pdf: _, rest } = inverse_gaussian_cdf(x, mu, allowed) else {
         return Quantile::Spent;
     };
     match bracket_at(x, cdf, mu, probability, rest) {

@@ -7,7 +7,8 @@ use crate::bracket::bracket_midpoint;
 use crate::counted::Quantile;
 use crate::counted::Reach;
 use crate::curves::Allowance;
-use crate::curves::Evaluation;
+use crate::curves::SurvivalEvaluation;
+use crate::curves::inverse_gaussian_pdf;
 use crate::curves::inverse_gaussian_survival;
 use crate::initial_guess::inverse_gaussian_quantile_initial_guess_from_z;
 use crate::initial_guess::is_proper;
@@ -109,10 +110,11 @@ fn from_below(initial: f64, mu: f64, probability: f64, allowed: Allowance) -> Re
     let mut left = allowed;
     loop {
         match inverse_gaussian_survival(bracket.upper, mu, left) {
-            Evaluation::Spent => return Reach::Spent,
-            Evaluation::Value {
-                value: survival,
-                pdf: _,
+            SurvivalEvaluation::Spent => return Reach::Spent,
+            SurvivalEvaluation::Value {
+                survival,
+                sqrt_x: _,
+                a: _,
                 rest,
             } => {
                 left = rest;
@@ -136,10 +138,11 @@ fn from_above(initial: f64, mu: f64, probability: f64, allowed: Allowance) -> Re
         match trial {
             Widening::Reached(b) => return Reach::Found(b, left),
             Widening::Wider(b) => match inverse_gaussian_survival(b.lower, mu, left) {
-                Evaluation::Spent => return Reach::Spent,
-                Evaluation::Value {
-                    value: survival,
-                    pdf: _,
+                SurvivalEvaluation::Spent => return Reach::Spent,
+                SurvivalEvaluation::Value {
+                    survival,
+                    sqrt_x: _,
+                    a: _,
                     rest,
                 } => {
                     left = rest;
@@ -212,13 +215,15 @@ fn survival_rounds(
     let mut left = allowed;
     for _ in 0u32..64 {
         match inverse_gaussian_survival(x, mu, left) {
-            Evaluation::Spent => return Quantile::Spent,
-            Evaluation::Value {
-                value: survival,
-                pdf,
+            SurvivalEvaluation::Spent => return Quantile::Spent,
+            SurvivalEvaluation::Value {
+                survival,
+                sqrt_x,
+                a,
                 rest,
             } => {
                 left = rest;
+                let pdf = inverse_gaussian_pdf(x, sqrt_x, a);
                 match bracket.survival_round(x, survival, pdf, probability) {
                     Rounded::Root(root) => return Quantile::Root(root, left),
                     Rounded::Again(b, next) => {
@@ -244,9 +249,10 @@ pub fn inverse_gaussian_quantile_from_survival(
     }
     let z = -inverse_norm_cdf(probability);
     let x = starting_point(inverse_gaussian_quantile_initial_guess_from_z(z, mu), mu);
-    let Evaluation::Value {
-        value: survival,
-        pdf: _,
+    let SurvivalEvaluation::Value {
+        survival,
+        sqrt_x: _,
+        a: _,
         rest,
     } = inverse_gaussian_survival(x, mu, allowed)
     else {

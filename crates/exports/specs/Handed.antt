@@ -1,17 +1,10 @@
 -- What C is handed: a number, and what then stands at the caller's places. Definitions only.
 use Prim.Native.Nat.{ℕ}
 use lib.Ieee.{Float}
-use Rattle.arithmetic.specs.Operations.{nought}
-use Rattle.explicit_black.specs.Counted.{Sample, sample, Metered, have, spent}
 use Rattle.explicit_black.specs.Quote.{Reply, answer, refusal}
 use Rattle.xdr_sheet.specs.Sheet.{Size, quotes, refused, Quoted, quoted, noQuote}
 use Rattle.xdr_sheet.specs.declared.text.Placed.{Placed}
 use Rattle.xdr_sheet.specs.declared.text.Placed.the-variants.{At, Full}
-
--- the value of an evaluation, which is there where one is allowed
-abbrev pub valueOf : Metered Sample → Float
-valueOf (have (sample v pdf) n) = v
-valueOf spent = nought
 
 -- the number, and total volatility, volatility and count at their places
 pub data Handed : Type 0 where

@@ -1,6 +1,7 @@
 // The functions of the layers for C and Rust, on numbers and bytes.
 use explicit_black::curves::Allowance;
 use explicit_black::curves::Evaluation;
+use explicit_black::curves::SurvivalEvaluation;
 use explicit_black::quote::Reply;
 use xdr_sheet::printing::Progress;
 use xdr_sheet::sheet::Asked;
@@ -17,14 +18,13 @@ ghost use Rattle.special_function.specs.Erfinv.{erfinv};
 ghost use Rattle.special_function.specs.NormalDistribution.{normPdf, normCdf, inverseNormCdf};
 ghost use Rattle.bs_option_price.specs.BsOptionPrice.{normalisedBlack, negativeAbsLogMoneyness};
 ghost use Rattle.explicit_black.specs.Curves.{inverseGaussianCdf, inverseGaussianSurvival};
-ghost use Rattle.explicit_black.specs.Meanings.{evaluated};
 ghost use Rattle.explicit_black.specs.Quote.{impliedBlackVolatilityNormalised, impliedBlackVolatilityInput};
 ghost use Rattle.explicit_black.specs.Replies.{replied};
 ghost use Rattle.xdr_sheet.specs.Sheet.{size, quotedAt};
 ghost use Rattle.xdr_sheet.specs.Lines.{placed, appended};
 ghost use Rattle.xdr_sheet.specs.Printing.{nextLine};
 ghost use Rattle.xdr_sheet.specs.declared.printing.Progress.the-variants.{Tally};
-ghost use Rattle.exports.specs.Handed.{valueOf, handed, handing, handingOf, counting, countingOf, bytesOf};
+ghost use Rattle.exports.specs.Handed.{handed, handing, handingOf, counting, countingOf, bytesOf};
 
 #[no_mangle]
 pub extern "C" fn quoter_sqrt(x: f64) -> f64
@@ -131,33 +131,35 @@ pub extern "C" fn quoter_negative_abs_log_moneyness(f: f64, k: f64) -> f64
     bs_option_price::negative_abs_log_moneyness(f, k)
 }
 
-// The value of an evaluation that was allowed.
-fn value(evaluation: Evaluation) -> f64
-    ensures { λ r. ⌜ r ≡ valueOf (evaluated evaluation) ⌝ }
+#[no_mangle]
+pub extern "C" fn quoter_inverse_gaussian_cdf(x: f64, mu: f64) -> f64
+    ensures { λ r. ⌜ r ≡ inverseGaussianCdf x mu ⌝ }
 {
-    match evaluation {
+    match explicit_black::curves::inverse_gaussian_cdf(x, mu, Allowance::new(1)) {
         Evaluation::Value {
-            value,
+            cdf,
             pdf: _,
             rest: _,
-        } => value,
+        } => cdf,
         // no case where one is allowed
         Evaluation::Spent => 0.0,
     }
 }
 
 #[no_mangle]
-pub extern "C" fn quoter_inverse_gaussian_cdf(x: f64, mu: f64) -> f64
-    ensures { λ r. ⌜ r ≡ inverseGaussianCdf x mu ⌝ }
-{
-    value(explicit_black::curves::inverse_gaussian_cdf(x, mu, Allowance::new(1)))
-}
-
-#[no_mangle]
 pub extern "C" fn quoter_inverse_gaussian_survival(x: f64, mu: f64) -> f64
     ensures { λ r. ⌜ r ≡ inverseGaussianSurvival x mu ⌝ }
 {
-    value(explicit_black::curves::inverse_gaussian_survival(x, mu, Allowance::new(1)))
+    match explicit_black::curves::inverse_gaussian_survival(x, mu, Allowance::new(1)) {
+        SurvivalEvaluation::Value {
+            survival,
+            sqrt_x: _,
+            a: _,
+            rest: _,
+        } => survival,
+        // no case where one is allowed
+        SurvivalEvaluation::Spent => 0.0,
+    }
 }
 
 // Writes a reply to the caller's places; a refusal writes no figure.

@@ -18,6 +18,7 @@ use bs_option_price::negative_abs_log_moneyness;
 use bs_option_price::normalised_black;
 use explicit_black::curves::Allowance;
 use explicit_black::curves::Evaluation;
+use explicit_black::curves::SurvivalEvaluation;
 use explicit_black::curves::inverse_gaussian_cdf;
 use explicit_black::curves::inverse_gaussian_survival;
 use explicit_black::quote::Reply;
@@ -79,15 +80,27 @@ fn bs_option_price_of(number: u64, a: f64, b: f64, c: f64) -> Outcome {
     }
 }
 
-// The value of an evaluation that is allowed.
-fn allowed(evaluation: Evaluation) -> Outcome {
+// The values of evaluations that are allowed.
+fn cdf_of(evaluation: Evaluation) -> Outcome {
     match evaluation {
         Evaluation::Value {
-            value,
+            cdf,
             pdf: _,
             rest: _,
-        } => Outcome::Number(value),
+        } => Outcome::Number(cdf),
         Evaluation::Spent => Outcome::Unknown,
+    }
+}
+
+fn survival_of(evaluation: SurvivalEvaluation) -> Outcome {
+    match evaluation {
+        SurvivalEvaluation::Value {
+            survival,
+            sqrt_x: _,
+            a: _,
+            rest: _,
+        } => Outcome::Number(survival),
+        SurvivalEvaluation::Spent => Outcome::Unknown,
     }
 }
 
@@ -95,8 +108,8 @@ fn allowed(evaluation: Evaluation) -> Outcome {
 fn explicit_black_of(number: u64, a: f64, b: f64) -> Outcome {
     match number {
         19 => Outcome::Quoted(implied_black_volatility_normalised(a, b)),
-        20 => allowed(inverse_gaussian_cdf(a, b, Allowance::new(1))),
-        21 => allowed(inverse_gaussian_survival(a, b, Allowance::new(1))),
+        20 => cdf_of(inverse_gaussian_cdf(a, b, Allowance::new(1))),
+        21 => survival_of(inverse_gaussian_survival(a, b, Allowance::new(1))),
         _ => Outcome::Unknown,
     }
 }

@@ -1,15 +1,23 @@
 -- One evaluation is allowed, so its value is there. Assumes nothing.
-use mathlib.Core.Path.{ap, _∙_}
-use Rattle.explicit_black.specs.Counted.{limited}
-use Rattle.exports.specs.Handed.{valueOf}
+use borrow.Author.Needs.{needs}
+use mathlib.Core.Path.{sym, ap, _∙_}
+use Rattle.explicit_black.specs.Meanings.{survivalEvaluated}
+use Rattle.explicit_black.specs.LawsCounted.{first-value, first-spent}
 use Rattle.exports.proofs.quoter_inverse_gaussian_survival.Statement.{statement}
 use Rattle.exports.proofs.quoter_inverse_gaussian_survival.Tie as tie
 
 returns : tie.Need-returns
-unfolding limited
 returns c =
-    let at-curve = c .before in
-    c .value .ensures ∙ ap valueOf (rw (at-curve .before .new .ensures) at (at-curve .inverse-gaussian-survival .ensures))
+    let at-curve = c .before .before .before in
+    let start = at-curve .before .before in
+    first-value _ (at-curve .before .new .ensures) (sym (ap (survivalEvaluated (start .args .x)) (c .before .survival .given .1)) ∙ at-curve .inverse-gaussian-survival .ensures)
+
+returns-2 : tie.Need-returns-2
+returns-2 c =
+    let at-curve = c .before .before in
+    let start = at-curve .before .before in
+    absurd (first-spent _ (at-curve .before .new .ensures) (sym (ap (survivalEvaluated (start .args .x)) (c .enum-told .given .1)) ∙ at-curve .inverse-gaussian-survival .ensures))
 
 pub quoter-inverse-gaussian-survival-spec : {M : Type 1} → statement M
-quoter-inverse-gaussian-survival-spec = tie.close (tie.spec (λ c κs. tt) (λ c κs. tt) (λ c κs. tt) returns)
+quoter-inverse-gaussian-survival-spec =
+    tie.close (tie.spec (λ c κs. tt) (λ c κs. tt) (λ c. search needs) (λ c. search needs) returns returns-2)

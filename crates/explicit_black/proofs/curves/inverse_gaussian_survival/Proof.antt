@@ -15,22 +15,22 @@ returns c = tick-none _ _ (c .if1 .taken)
 returns-2 : tie.Need-returns-2
 unfolding inverseGaussianSurvival inverseGaussianPdf
 returns-2 c =
-    let at-black = c .before .before .before in
+    let at-black = c .before .before in
     let at-recip = at-black .before .before in
     let at-sqrt = at-recip .before in
     let at-test = at-sqrt .before in
+    let start = at-test .before .before in
     tick-some _ _ _ (at-test .if1 .left)
     (rw (
-      c .before .norm-pdf .ensures,
-      c .before .before .exp .ensures,
+      c .before .exp .ensures,
       at-black .normalised-black .ensures,
       at-black .before .recip2 .ensures,
       at-recip .recip .ensures,
       at-sqrt .sqrt .ensures,
-      sym (div-neg binary64 (sqrt (at-test .before .before .args .x)) (at-test .before .before .args .mu)),
+      sym (div-neg binary64 (sqrt (start .args .x)) (start .args .mu)),
     ))
 
 pub inverse-gaussian-survival-spec : {M : Type 1} → statement M
 inverse-gaussian-survival-spec =
     tie.close
-    (tie.spec returns (λ c κs. tt) (λ c κs. tt) (λ c κs. tt) (λ c κs. tt) (λ c κs. tt) (λ c κs. tt) (λ c. search needs) returns-2)
+    (tie.spec returns (λ c κs. tt) (λ c κs. tt) (λ c κs. tt) (λ c κs. tt) (λ c κs. tt) (λ c. search needs) returns-2)

@@ -5,7 +5,7 @@ use mathlib.Core.Path.{sym, ap, _∙_}
 use Rattle.explicit_black.specs.Counted.{limited}
 use Rattle.explicit_black.specs.Bracket.{halvings}
 use Rattle.explicit_black.specs.Survival.{survivalHalving, survivalFromAbove}
-use Rattle.explicit_black.specs.Meanings.{evaluated, widening}
+use Rattle.explicit_black.specs.Meanings.{survivalEvaluated, widening}
 use Rattle.explicit_black.specs.LawsCounted.{Carried, carried, carried-at, carried-turn, carried-spent, carried-stop, some-spent, some-have, fewer}
 use Rattle.explicit_black.proofs.Halving.{survival-ends-above}
 use Rattle.explicit_black.proofs.survival.from_above.Statement.{statement}
@@ -34,12 +34,14 @@ returns-2 c =
     let at-trial = at-survival .before .before in
     some-spent _ _
     (carried-spent _ (carried-at (at-trial .before .before .loop .inv) (ap widening (at-trial .trial2 .given .1)))
-    (sym (ap evaluated (c .enum-told .given .1)) ∙ at-survival .inverse-gaussian-survival .ensures))
+    (sym (ap (survivalEvaluated (at-trial .trial2 .given .0 .0 .lower)) (c .enum-told .given .1)) ∙ at-survival .inverse-gaussian-survival .ensures))
 
 loop-less : tie.Need-loop-less Inv-loop μ-loop
 loop-less c =
     let at-value = c .before .before in
-    fewer _ (sym (ap evaluated (at-value .survival .given .1)) ∙ at-value .before .before .inverse-gaussian-survival .ensures)
+    let at-survival = at-value .before .before in
+    let at-trial = at-survival .before .before in
+    fewer _ (sym (ap (survivalEvaluated (at-trial .trial2 .given .0 .0 .lower)) (at-value .survival .given .1)) ∙ at-survival .inverse-gaussian-survival .ensures)
 
 loop-again : tie.Need-loop-again Inv-loop μ-loop
 loop-again c =
@@ -47,7 +49,7 @@ loop-again c =
     let at-survival = at-value .before .before in
     let at-trial = at-survival .before .before in
     carried-turn _ (carried-at (at-trial .before .before .loop .inv) (ap widening (at-trial .trial2 .given .1)))
-    (sym (ap evaluated (at-value .survival .given .1)) ∙ at-survival .inverse-gaussian-survival .ensures) (sym (c .survival-lowered .ensures))
+    (sym (ap (survivalEvaluated (at-trial .trial2 .given .0 .0 .lower)) (at-value .survival .given .1)) ∙ at-survival .inverse-gaussian-survival .ensures) (sym (c .survival-lowered .ensures))
 
 pub from-above-spec : {M : Type 1} → statement M
 from-above-spec =

@@ -2,7 +2,7 @@
 use borrow.Author.Needs.{needs}
 use mathlib.Core.Path.{sym, ap, _∙_}
 use Rattle.arithmetic.specs.Laws.Numbers.{denied, affirmed}
-use Rattle.explicit_black.specs.Meanings.{evaluated, reached}
+use Rattle.explicit_black.specs.Meanings.{survivalEvaluated, reached}
 use Rattle.explicit_black.proofs.Searches.{solvable-proper, start-proper, survival-unsolvable, survival-no-guess, survival-from-guess, survival-no-bracket, survival-nowhere, survival-from-bracket}
 use Rattle.explicit_black.proofs.survival.inverse_gaussian_quantile_from_survival.Statement.{
   statement,
@@ -15,10 +15,11 @@ returns c = survival-unsolvable _ _ _ (denied _ _ (c .before .is-solvable .ensur
 returns-2 : tie.Need-returns-2
 returns-2 c =
     let at-survival = c .before .before in
-    let at-norm-cdf = at-survival .before .before .before in
+    let at-start = at-survival .before in
+    let at-norm-cdf = at-start .before .before in
     let at-test = at-norm-cdf .before in
     survival-no-guess _ _ _ _ (affirmed _ _ (at-test .before .is-solvable .ensures) (at-test .if1 .left))
-    (sym (ap evaluated (c .enum-told .given .1)) ∙ at-survival .inverse-gaussian-survival .ensures)
+    (sym (ap (survivalEvaluated (at-start .starting-point .result)) (c .enum-told .given .1)) ∙ at-survival .inverse-gaussian-survival .ensures)
 
 survival-bracket-at-requires : tie.Need-survival-bracket-at-requires
 survival-bracket-at-requires c κs =
@@ -41,7 +42,7 @@ returns-3 c =
     let at-test = at-norm-cdf .before in
     survival-from-guess _ _ _ _ _ _ _ _ _ _ (affirmed _ _ (at-test .before .is-solvable .ensures) (at-test .if1 .left)) (at-norm-cdf .inverse-norm-cdf .ensures)
     (at-start .before .inverse-gaussian-quantile-initial-guess-from-z .ensures) (at-start .starting-point .ensures)
-    (sym (ap evaluated (at-value .survival .given .1)) ∙ at-survival .inverse-gaussian-survival .ensures)
+    (sym (ap (survivalEvaluated (at-start .starting-point .result)) (at-value .survival .given .1)) ∙ at-survival .inverse-gaussian-survival .ensures)
     (survival-from-bracket _ _ _ _ _ _ _ _ (sym (ap reached (found .bracket .given .1)) ∙ at-bracket .survival-bracket-at .ensures) (c .survival-rounds .ensures))
 
 returns-4 : tie.Need-returns-4
@@ -54,7 +55,7 @@ returns-4 c =
     let at-test = at-norm-cdf .before in
     survival-from-guess _ _ _ _ _ _ _ _ _ _ (affirmed _ _ (at-test .before .is-solvable .ensures) (at-test .if1 .left)) (at-norm-cdf .inverse-norm-cdf .ensures)
     (at-start .before .inverse-gaussian-quantile-initial-guess-from-z .ensures) (at-start .starting-point .ensures)
-    (sym (ap evaluated (at-value .survival .given .1)) ∙ at-survival .inverse-gaussian-survival .ensures)
+    (sym (ap (survivalEvaluated (at-start .starting-point .result)) (at-value .survival .given .1)) ∙ at-survival .inverse-gaussian-survival .ensures)
     (survival-nowhere _ _ _ _ _ _ (sym (ap reached (c .before .left .given .1)) ∙ at-bracket .survival-bracket-at .ensures))
 
 returns-5 : tie.Need-returns-5
@@ -67,7 +68,7 @@ returns-5 c =
     let at-test = at-norm-cdf .before in
     survival-from-guess _ _ _ _ _ _ _ _ _ _ (affirmed _ _ (at-test .before .is-solvable .ensures) (at-test .if1 .left)) (at-norm-cdf .inverse-norm-cdf .ensures)
     (at-start .before .inverse-gaussian-quantile-initial-guess-from-z .ensures) (at-start .starting-point .ensures)
-    (sym (ap evaluated (at-value .survival .given .1)) ∙ at-survival .inverse-gaussian-survival .ensures)
+    (sym (ap (survivalEvaluated (at-start .starting-point .result)) (at-value .survival .given .1)) ∙ at-survival .inverse-gaussian-survival .ensures)
     (survival-no-bracket _ _ _ _ _ (sym (ap reached (c .enum-told2 .given .1)) ∙ at-bracket .survival-bracket-at .ensures))
 
 pub inverse-gaussian-quantile-from-survival-spec : {M : Type 1} → statement M

@@ -7,7 +7,7 @@ use native.Mathlib.Omega.{arith}
 use Rattle.explicit_black.specs.Counted.{limited}
 use Rattle.explicit_black.specs.Loops.{go}
 use Rattle.explicit_black.specs.Survival.{survivalRounding, survivalRounds}
-use Rattle.explicit_black.specs.Meanings.{evaluated, rounded}
+use Rattle.explicit_black.specs.Meanings.{survivalEvaluated, rounded}
 use Rattle.explicit_black.specs.LawsCounted.{Left, left-spent, left-stop, left-out, some-spent, some-have}
 use Rattle.explicit_black.proofs.Searches.{survival-round-turn}
 use Rattle.explicit_black.proofs.survival.survival_rounds.Statement.{statement}
@@ -31,27 +31,29 @@ returns c =
     let at-loop = at-survival .before .before in
     some-spent _ _
     (left-spent (64 - (at-loop .loop .counter + 1)) _ (at-loop .loop .inv .0) (omega arith)
-    (sym (ap evaluated (c .enum-told .given .1)) ∙ at-survival .inverse-gaussian-survival .ensures))
+    (sym (ap (survivalEvaluated (at-loop .loop .x)) (c .enum-told .given .1)) ∙ at-survival .inverse-gaussian-survival .ensures))
 
 returns-2 : tie.Need-returns-2 Inv-loop μ-loop
 returns-2 c =
     let at-round = c .before .before .before in
-    let at-value = at-round .before .before in
+    let at-pdf = at-round .before in
+    let at-value = at-pdf .before .before in
     let at-survival = at-value .before .before in
     let at-loop = at-survival .before .before in
     let n : Left _ (64 - (at-loop .loop .counter + 1)) _ _ _ =
     survival-round-turn _ _ _ _ (at-loop .loop .inv .0) (omega arith)
-    (sym (ap evaluated (at-value .survival .given .1)) ∙ at-survival .inverse-gaussian-survival .ensures) (at-round .survival-round .ensures) (ap rounded (c .before .root .given .1)) in
+    (sym (ap (survivalEvaluated (at-loop .loop .x)) (at-value .survival .given .1)) ∙ at-survival .inverse-gaussian-survival .ensures) (at-pdf .inverse-gaussian-pdf .ensures) (at-round .survival-round .ensures) (ap rounded (c .before .root .given .1)) in
     some-have _ _ _ _ (sym (left-stop n))
 
 loop-again : tie.Need-loop-again Inv-loop μ-loop
 loop-again c =
     let at-round = c .before .before .before in
-    let at-value = at-round .before .before in
+    let at-pdf = at-round .before in
+    let at-value = at-pdf .before .before in
     let at-survival = at-value .before .before in
     let at-loop = at-survival .before .before in (
       survival-round-turn _ _ _ _ (at-loop .loop .inv .0) (omega arith)
-          (sym (ap evaluated (at-value .survival .given .1)) ∙ at-survival .inverse-gaussian-survival .ensures) (at-round .survival-round .ensures) (ap rounded (c .before .b .given .1)),
+          (sym (ap (survivalEvaluated (at-loop .loop .x)) (at-value .survival .given .1)) ∙ at-survival .inverse-gaussian-survival .ensures) (at-pdf .inverse-gaussian-pdf .ensures) (at-round .survival-round .ensures) (ap rounded (c .before .b .given .1)),
       omega arith,
     )
 
@@ -64,5 +66,5 @@ pub survival-rounds-spec : {M : Type 1} → statement M
 survival-rounds-spec =
     tie.close
     (tie.spec Inv-loop μ-loop loop-holds (λ c κs. tt) (λ c. search needs) returns (λ c. search needs) (λ c κs. tt)
-    (λ c. search needs) returns-2 (λ c. search needs) (λ c. omega arith) (λ c. omega arith) loop-again (λ c κs. tt)
+    (λ c κs. tt) (λ c. search needs) returns-2 (λ c. search needs) (λ c. omega arith) (λ c. omega arith) loop-again (λ c κs. tt)
     returns-3)

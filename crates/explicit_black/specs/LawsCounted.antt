@@ -26,10 +26,10 @@ limited-tick n c = refl
 pub tick-none : {R : Type 0} (n : ℕ) (w : R) → n ≡ 0 → spent ≡ limited n (tick (atOnce w))
 tick-none n w e = rw e (sym (limited-none (atOnce w)))
 
-pub tick-some : {R : Type 0} (n : ℕ) (v w : R) → (n ≡ 0 → ⊥) → v ≡ w → have v (n - 1) ≡ limited n (tick (atOnce w))
+pub tick-some : {R : Type 0} (n : ℕ) (v w : R) {m : ℕ} → (n ≡ 0 → ⊥) → v ≡ w → m ≡ n - 1 → have v m ≡ limited n (tick (atOnce w))
 unfolding limited
-tick-some zero v w h e = absurd (h refl)
-tick-some (suc n) v w h e = let d : suc n - 1 ≡ n = omega arith in rw (d, e)
+tick-some zero v w h e l = absurd (h refl)
+tick-some (suc n) v w h e l = let d : suc n - 1 ≡ n = omega arith in rw (l, d, e)
 
 -- with enough allowed, the result and what is left
 pub limited-enough : {R : Type 0} (n : ℕ) (c : Counted R) → c .count ≤ n → limited n c ≡ have (c .result) (n - c .count)

@@ -10,6 +10,7 @@ use special_function::normal_distribution::norm_cdf;
 use special_function::normal_distribution::norm_pdf;
 use special_function::normal_distribution::norm_pdf_of_square;
 ghost use mathlib.Core.Path.{_≡_};
+ghost use Prim.Native.Nat.{_-_, _<_};
 ghost use Rattle.explicit_black.specs.Counted.{sample, limited, tick, atOnce};
 ghost use Rattle.explicit_black.specs.Meanings.{pdfFrom, evaluated, survivalEvaluated};
 ghost use Rattle.explicit_black.specs.Curves.{inverseGaussianSurvival, inverseGaussianCdf, inverseGaussianPdf};
@@ -30,6 +31,16 @@ impl Allowance {
         ensures { λ r. ⌜ r ≡ self .left ⌝ }
     {
         self.left
+    }
+
+    // One evaluation fewer.
+    fn lowered(self) -> Allowance
+        requires { ⌜ 0 < self .left ⌝ }
+        ensures { λ r. ⌜ r .left ≡ self .left - 1 ⌝ }
+    {
+        Allowance {
+            left: self.left - 1,
+        }
     }
 }
 
@@ -68,9 +79,7 @@ pub fn inverse_gaussian_survival(x: f64, mu: f64, allowed: Allowance) -> Surviva
         survival: black / exp(exponent),
         sqrt_x: sqrt_x,
         a: leading - inv_sqrt_x,
-        rest: Allowance {
-            left: allowed.left - 1,
-        },
+        rest: allowed.lowered(),
     }
 }
 
@@ -90,9 +99,7 @@ pub fn inverse_gaussian_cdf(x: f64, mu: f64, allowed: Allowance) -> Evaluation
     Evaluation::Value {
         cdf: cdf,
         pdf: norm_pdf_of_square(a, exponential) / (x * sqrt_x),
-        rest: Allowance {
-            left: allowed.left - 1,
-        },
+        rest: allowed.lowered(),
     }
 }
 

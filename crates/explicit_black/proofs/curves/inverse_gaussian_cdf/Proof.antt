@@ -12,21 +12,23 @@ returns c = tick-none _ _ (c .if1 .taken)
 returns-2 : tie.Need-returns-2
 unfolding inverseGaussianCdf inverseGaussianPdf
 returns-2 c =
-    let at-norm-cdf = c .before .before .before in
+    let at-norm-pdf = c .before in
+    let at-norm-cdf = at-norm-pdf .before .before in
     let at-recip = at-norm-cdf .before .before in
     let at-sqrt = at-recip .before in
     tick-some _ _ _ (at-sqrt .before .if1 .left)
     (rw (
-      c .before .norm-pdf-of-square .ensures,
-      c .before .before .erfcx-cody .ensures,
+      at-norm-pdf .norm-pdf-of-square .ensures,
+      at-norm-pdf .before .erfcx-cody .ensures,
       at-norm-cdf .norm-cdf .ensures,
       at-norm-cdf .before .exp .ensures,
       at-recip .recip .ensures,
       at-sqrt .sqrt .ensures,
       pdf-of-square,
     ))
+    (c .lowered .ensures)
 
 pub inverse-gaussian-cdf-spec : {M : Type 1} → statement M
 inverse-gaussian-cdf-spec =
     tie.close
-    (tie.spec returns (λ c κs. tt) (λ c κs. tt) (λ c κs. tt) (λ c κs. tt) (λ c κs. tt) (λ c κs. tt) (λ c. search needs) returns-2)
+    (tie.spec returns (λ c κs. tt) (λ c κs. tt) (λ c κs. tt) (λ c κs. tt) (λ c κs. tt) (λ c κs. tt) (λ c κs. search needs) returns-2)

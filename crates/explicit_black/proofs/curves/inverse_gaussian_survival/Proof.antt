@@ -15,22 +15,24 @@ returns c = tick-none _ _ (c .if1 .taken)
 returns-2 : tie.Need-returns-2
 unfolding inverseGaussianSurvival inverseGaussianPdf
 returns-2 c =
-    let at-black = c .before .before in
+    let at-exp = c .before in
+    let at-black = at-exp .before in
     let at-recip = at-black .before .before in
     let at-sqrt = at-recip .before in
     let at-test = at-sqrt .before in
     let start = at-test .before .before in
     tick-some _ _ _ (at-test .if1 .left)
     (rw (
-      c .before .exp .ensures,
+      at-exp .exp .ensures,
       at-black .normalised-black .ensures,
       at-black .before .recip2 .ensures,
       at-recip .recip .ensures,
       at-sqrt .sqrt .ensures,
       sym (div-neg binary64 (sqrt (start .args .x)) (start .args .mu)),
     ))
+    (c .lowered .ensures)
 
 pub inverse-gaussian-survival-spec : {M : Type 1} → statement M
 inverse-gaussian-survival-spec =
     tie.close
-    (tie.spec returns (λ c κs. tt) (λ c κs. tt) (λ c κs. tt) (λ c κs. tt) (λ c κs. tt) (λ c. search needs) returns-2)
+    (tie.spec returns (λ c κs. tt) (λ c κs. tt) (λ c κs. tt) (λ c κs. tt) (λ c κs. tt) (λ c κs. search needs) returns-2)

@@ -5,8 +5,11 @@
      - round to nearest, ties to even;
      - keep subnormal numbers: no flush to zero, no denormals-are-zero;
      - mask every floating-point exception
-   (x86-64: MXCSR 0x1F80, its status bits aside, as a C program starts). In any other mode nothing is promised: bits differ. A call may set
-   status bits. Where a result is NaN, only that is promised, not its sign or payload, nor that it is quiet. No total and no volatility is NaN.
+   (x86-64: MXCSR 0x1F80, its status bits aside, as a C program starts). In any other mode nothing is promised, and bits do differ. A test at
+   power-on: call, price 0x4p-1074, forward 0x5p-1074, strike 0x2p-1074, time 1 has the total 0x40000BF0F86ED205 and 6 evaluations; another
+   rounding, or subnormals lost, shows there. A call may set status bits.
+   Where a result is NaN, only that is promised: on x86-64 it is 0x7FF8000000000000, 0xFFF8000000000000 or the pattern of an argument, with
+   its sign turned or its quiet bit set or neither. No total and no volatility is NaN.
 
    Memory. A pointer to a number is aligned and not null; bytes need no alignment. A length is 64 bits wide on every processor. Where it is 0
    nothing is read or written, and the pointer may be null. What a call writes to overlaps nothing else that the call is given.

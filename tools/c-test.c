@@ -12,6 +12,7 @@
 #include <math.h>
 #include <stdio.h>
 #include <string.h>
+#include <xmmintrin.h>
 
 static const double UNTOUCHED = -12345.0;
 static unsigned run, differ;
@@ -94,6 +95,7 @@ static void known_values(void)
     value("exp 0", quoter_exp(0.0), 1.0);
     value("ln 1", quoter_ln(1.0), 0.0);
     value("price at t = 0", quoter_normalised_black(-1.0, -1.0, 0.0), 0.0);
+    check("root of -1", isnan(quoter_sqrt(-1.0)));
     check("ln_1p outside", isnan(quoter_ln_1p(2.0)));
     value("forward 5 and strike 2 units of 2^-1074", quoter_negative_abs_log_moneyness(0x5p-1074, 0x2p-1074), -quoter_ln_1p(1.5));
 }
@@ -129,6 +131,28 @@ static void known_pair(void)
     uint32_t put = quoter_quote(1, 4.0, 480.0, 400.0, 1.0, &total[1], &volatility[1], &count[1]);
     int agree = total[0] > 0.0 && bits(total[0]) == bits(total[1]) && bits(volatility[0]) == bits(total[0]);
     check("call and put", call == 0 && put == 0 && agree && count[0] == count[1] && count[0] > 0);
+}
+
+/* The header's test of the mode; its figures are the Rust's. */
+static int in_mode(void)
+{
+    double total = UNTOUCHED, volatility = UNTOUCHED;
+    uint64_t count = 7;
+    uint32_t found = quoter_quote(0, 0x4p-1074, 0x5p-1074, 0x2p-1074, 1.0, &total, &volatility, &count);
+    return found == 0 && bits(total) == 0x40000BF0F86ED205 && bits(volatility) == bits(total) && count == 6;
+}
+
+/* Other roundings (down, up, toward zero), flush to zero and denormals-are-zero show there. */
+static void known_modes(void)
+{
+    static const unsigned modes[5] = {0x2000, 0x4000, 0x6000, 0x8000, 0x0040};
+    check("mode at the start", (_mm_getcsr() & ~0x3Fu) == 0x1F80 && in_mode());
+    for (int i = 0; i < 5; i++) {
+        _mm_setcsr(0x1F80 | modes[i]);
+        int same = in_mode();
+        _mm_setcsr(0x1F80);
+        check("another mode", !same);
+    }
 }
 
 /* Document 01's sample: 3 quotes, and the 4 lines of its text. */
@@ -231,6 +255,7 @@ static int known(void)
     known_values();
     known_replies();
     known_pair();
+    known_modes();
     known_sizes();
     known_quotes();
     known_lines();

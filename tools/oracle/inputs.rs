@@ -879,7 +879,7 @@ pub fn pair(rng: &mut Rng, exchanged: bool) -> [Quote; 2] {
 }
 
 /// A quote whose search is taken: a time value above 0 and below its bound, under 1e-5 of it for the survival path.
-pub fn searched(rng: &mut Rng, on_survival_path: bool) -> Quote {
+fn searched(rng: &mut Rng, on_survival_path: bool) -> Quote {
     let mut q = desk(rng);
     if q.strike == q.forward {
         q.strike = step(q.forward, 1 + rng.below(9) as i64);
@@ -908,7 +908,7 @@ fn quote(side: u32, price: f64, forward: f64, strike: f64, time: f64) -> Quote {
 
 /// Two quotes, each followed by itself with price, forward and strike doubled. The first two have other totals; of the other two one is
 /// refused and one is answered. Only scaling by 4^n keeps a quote's total and refusal.
-pub fn doubled() -> [Quote; 4] {
+fn doubled() -> [Quote; 4] {
     let below = 1.0 - power(-53);
     [
         quote(0, 1.0, 2.0, 2.0, 1.0),
@@ -939,6 +939,11 @@ fn examples() -> Vec<Quote> {
         quote(0, 4.0 * tiny, 5.0 * tiny, 2.0 * tiny, 1.0),
         quote(1, tiny, 5.0 * tiny, 2.0 * tiny, 1.0),
     ]
+}
+
+/// The quote with the most evaluations, 102, of 20 million whose strike is next to its forward and whose price is close under 1e-5 of it.
+fn longest() -> Quote {
+    quote(0, 1.605782568808638e-5, 1.7887685143148444, 1.7887685143148446, 1.0)
 }
 
 /// Minus zero as price and as time, and a time value that divides to minus zero.
@@ -986,7 +991,7 @@ fn refused() -> Vec<Quote> {
 
 /// The quotes of the sheet that the repository keeps: 1,000.
 pub fn kept(seed: u64) -> Vec<Quote> {
-    let mut list = [examples(), doubled().to_vec(), minus_zeros(), refused()].concat();
+    let mut list = [examples(), doubled().to_vec(), vec![longest()], minus_zeros(), refused()].concat();
     let mut rng = Rng::new(seed);
     for on_survival_path in [true, false] {
         list.extend((0..125).map(|_| searched(&mut rng, on_survival_path)));

@@ -1,5 +1,6 @@
 /* The Black volatility of a quote, sheets of quotes, and the functions of the layers below: the static library of the crate `exports`.
-   The archive is for x86-64 Linux. Every function takes any bits, ends, keeps no state and calls nothing of its caller's.
+   The archive is for x86-64 Linux. Every function takes any bits, ends, keeps no state, so that threads may call it at once, and calls
+   nothing of its caller's.
 
    Floating point. A call's results are IEEE 754 binary64's, bit for bit, on a processor that is set to
      - round to nearest, ties to even;
@@ -8,8 +9,8 @@
    (x86-64: MXCSR 0x1F80, its status bits aside, as a C program starts). In any other mode nothing is promised, and bits do differ. A test at
    power-on: call, price 0x4p-1074, forward 0x5p-1074, strike 0x2p-1074, time 1 has the total 0x40000BF0F86ED205 and 6 evaluations; another
    rounding, or subnormals lost, shows there. A call may set status bits.
-   Where a result is NaN, only that is promised: on x86-64 it is 0x7FF8000000000000, 0xFFF8000000000000 or the pattern of an argument, with
-   its sign turned or its quiet bit set or neither. No total and no volatility is NaN.
+   Where a result is NaN, only that is promised. On x86-64 it is 0x7FF8000000000000, 0xFFF8000000000000, or an argument's pattern, whose sign
+   may be turned and whose quiet bit may be set: it may be signalling. No total and no volatility is NaN.
 
    Memory. A pointer to a number is aligned and not null; bytes need no alignment. A length is 64 bits wide on every processor. Where it is 0
    nothing is read or written, and the pointer may be null. What a call writes to overlaps nothing else that the call is given.
@@ -45,7 +46,7 @@ double quoter_negative_abs_log_moneyness(double f, double k);
 double quoter_inverse_gaussian_cdf(double x, double mu);
 double quoter_inverse_gaussian_survival(double x, double mu);
 
-/* The entries. 0: total volatility, volatility, which may be infinite, and the number of evaluations made, at most 2,263, are written.
+/* The entries. 0: total volatility and volatility, which may be infinite, and the number of evaluations, at most 2,263, are written.
    Else the number of a refusal: the number of evaluations is written, and the two figures stay as they were. The first that applies:
      1  side is neither 0 (call) nor 1 (put)
      2  a figure is NaN or infinite

@@ -12,6 +12,7 @@
 #include <math.h>
 #include <stdio.h>
 #include <string.h>
+#include <xmmintrin.h>
 
 static const double UNTOUCHED = -12345.0;
 static unsigned run, differ;
@@ -94,6 +95,7 @@ static void known_values(void)
     value("exp 0", quoter_exp(0.0), 1.0);
     value("ln 1", quoter_ln(1.0), 0.0);
     value("price at t = 0", quoter_normalised_black(-1.0, -1.0, 0.0), 0.0);
+    check("root of -1", isnan(quoter_sqrt(-1.0)));
     check("ln_1p outside", isnan(quoter_ln_1p(2.0)));
     value("forward 5 and strike 2 units of 2^-1074", quoter_negative_abs_log_moneyness(0x5p-1074, 0x2p-1074), -quoter_ln_1p(1.5));
 }
@@ -103,16 +105,21 @@ static void known_replies(void)
     quote("price zero", 0, 0.0, 100.0, 120.0, 1.0, 0, 0.0);
     quote("price at its bound", 0, 100.0, 100.0, 120.0, 1.0, 0, INFINITY);
     quote("intrinsic at time zero", 0, 20.0, 120.0, 100.0, 0.0, 0, 0.0);
+    quote("intrinsic at time minus zero", 0, 20.0, 120.0, 100.0, -0.0, 0, 0.0);
     quote("refusal 1", 2, 1.0, 100.0, 100.0, 1.0, 1, 0.0);
     quote("refusal 2", 0, NAN, 100.0, 100.0, 1.0, 2, 0.0);
+    quote("refusal 2, infinite", 0, 1.0, 100.0, INFINITY, 1.0, 2, 0.0);
     quote("refusal 3", 0, 1.0, 0.0, 100.0, 1.0, 3, 0.0);
     quote("refusal 4", 0, 1.0, 100.0, 100.0, -1.0, 4, 0.0);
     quote("refusal 5", 0, 19.0, 120.0, 100.0, 0.0, 5, 0.0);
     quote("refusal 6", 0, 101.0, 100.0, 120.0, 1.0, 6, 0.0);
     quote("one unit above", 0, 100.0 + 0x1p-46, 100.0, 120.0, 1.0, 6, 0.0);
     quote("refusal 7", 1, 5.0, 100.0, 120.0, 1.0, 7, 0.0);
+    quote("refusal 8", 1, 92.07499999999999, 184.15, 92.075, 1.0, 8, 0.0);
+    normalised("refusal 2, normalised", INFINITY, 0.5, 2);
     normalised("refusal 7, normalised", 0.0, -1.0, 7);
-    normalised("refusal 8", 0.0, 2.0, 8);
+    normalised("refusal 8, normalised", 0.0, 2.0, 8);
+    normalised("refusal 9, normalised", 0x1p-1074, 0.5, 9);
 }
 
 /* A quote and the put that document 01 pairs with it: equal totals, equal counts. */
@@ -122,43 +129,136 @@ static void known_pair(void)
     uint64_t count[2];
     uint32_t call = quoter_quote(0, 1.0, 100.0, 120.0, 1.0, &total[0], &volatility[0], &count[0]);
     uint32_t put = quoter_quote(1, 4.0, 480.0, 400.0, 1.0, &total[1], &volatility[1], &count[1]);
-    check("call and put", call == 0 && put == 0 && total[0] > 0.0 && bits(total[0]) == bits(total[1]) && count[0] == count[1]);
+    int agree = total[0] > 0.0 && bits(total[0]) == bits(total[1]) && bits(volatility[0]) == bits(total[0]);
+    check("call and put", call == 0 && put == 0 && agree && count[0] == count[1] && count[0] > 0);
 }
 
-static void known_sheet(void)
+/* The header's test of the mode; its figures are the Rust's. */
+static int in_mode(void)
 {
-    static const double figures[3][4] = {{0.0, 100.0, 120.0, 1.0}, {100.0, 100.0, 120.0, 1.0}, {5.0, 100.0, 120.0, 1.0}};
-    static const char *lines[4] = {"1 V 0000000000000000 0000000000000000 0\n", "2 V 7ff0000000000000 7ff0000000000000 0\n", "3 R 7 0\n", "T 2 1\n"};
-    uint8_t sheet[112], text[81];
-    uint32_t quotes = 7;
-    put(sheet, 3, 4);
-    for (int i = 0; i < 3; i++) {
-        put(sheet + 4 + 36 * i, i == 2, 4);
-        for (int j = 0; j < 4; j++)
-            put(sheet + 8 + 36 * i + 8 * j, bits(figures[i][j]), 8);
-    }
-    check("size", quoter_sheet_size(sheet, sizeof sheet, &quotes) == 0 && quotes == 3);
-    for (uint32_t i = 0; i < 4; i++) {
-        size_t length = strlen(lines[i]);
-        memset(text, '#', sizeof text);
-        check("line", quoter_sheet_line(sheet, sizeof sheet, i < 2 ? i : 2, i == 3, text, sizeof text) == length && memcmp(text, lines[i], length) == 0 && text[length] == '#');
-        memset(text, '#', sizeof text);
-        check("no room", quoter_sheet_line(sheet, sizeof sheet, i < 2 ? i : 2, i == 3, text, length - 1) == 0 && text[0] == '#');
-    }
     double total = UNTOUCHED, volatility = UNTOUCHED;
     uint64_t count = 7;
-    check("no such quote", quoter_sheet_quote(sheet, sizeof sheet, 3, &total, &volatility, &count) == 10 && total == UNTOUCHED && volatility == UNTOUCHED && count == 0);
-    quotes = 7;
-    check("refusal 10", quoter_sheet_size(sheet, 3, &quotes) == 10 && quotes == 7);
-    check("line of refusal 10", quoter_sheet_line(sheet, 3, 0, 0, text, sizeof text) == 5 && memcmp(text, "S 10\n", 5) == 0);
+    uint32_t found = quoter_quote(0, 0x4p-1074, 0x5p-1074, 0x2p-1074, 1.0, &total, &volatility, &count);
+    return found == 0 && bits(total) == 0x40000BF0F86ED205 && bits(volatility) == bits(total) && count == 6;
+}
+
+/* Other roundings (down, up, toward zero), flush to zero and denormals-are-zero show there. */
+static void known_modes(void)
+{
+    static const unsigned modes[5] = {0x2000, 0x4000, 0x6000, 0x8000, 0x0040};
+    check("mode at the start", (_mm_getcsr() & ~0x3Fu) == 0x1F80 && in_mode());
+    for (int i = 0; i < 5; i++) {
+        _mm_setcsr(0x1F80 | modes[i]);
+        int same = in_mode();
+        _mm_setcsr(0x1F80);
+        check("another mode", !same);
+    }
+}
+
+/* Document 01's sample: 3 quotes, and the 4 lines of its text. */
+static const char *LINES[4] = {
+    "1 V 0000000000000000 0000000000000000 0\n", "2 V 7ff0000000000000 7ff0000000000000 0\n", "3 R 7 0\n", "T 2 1\n"};
+static uint8_t sample[4 + 36 * 3];
+
+static void write_sample(void)
+{
+    static const double figures[3][4] = {{0.0, 100.0, 120.0, 1.0}, {100.0, 100.0, 120.0, 1.0}, {5.0, 100.0, 120.0, 1.0}};
+    put(sample, 3, 4);
+    for (int i = 0; i < 3; i++) {
+        put(sample + 4 + 36 * i, i == 2, 4);
+        for (int j = 0; j < 4; j++)
+            put(sample + 8 + 36 * i + 8 * j, bits(figures[i][j]), 8);
+    }
+}
+
+/* The number that a sheet gives, and its number of quotes, which a refusal leaves as it was. */
+static void size(const char *what, const uint8_t *sheet, uint64_t length, uint32_t number, uint32_t right)
+{
+    uint32_t quotes = 7, found = quoter_sheet_size(sheet, length, &quotes);
+    check(what, found == number && quotes == (number == 0 ? right : 7));
+}
+
+static void known_sizes(void)
+{
+    static uint8_t sheet[4 + 36 * 1001];
+    size("size of the sample", sample, sizeof sample, 0, 3);
+    size("one byte less", sample, sizeof sample - 1, 10, 0);
+    size("3 bytes", sample, 3, 10, 0);
+    size("no bytes", sample, 0, 10, 0);
+    size("no bytes and no pointer", NULL, 0, 10, 0);
+    size("no quotes", sheet, 4, 0, 0);
+    size("no quotes and a byte", sheet, 5, 10, 0);
+    put(sheet, 1000, 4);
+    size("1000 quotes", sheet, 4 + 36 * 1000, 0, 1000);
+    size("1000 quotes and a byte", sheet, 4 + 36 * 1000 + 1, 10, 0);
+    put(sheet, 1001, 4);
+    size("1001 quotes", sheet, 4 + 36 * 1001, 10, 0);
+}
+
+/* A quote of a sheet whose figures, where it has any, are both `figures`; 0 evaluations unless nothing is written. */
+static void at(const char *what, const uint8_t *sheet, uint64_t length, uint64_t index, uint32_t number, double figures)
+{
+    double total = UNTOUCHED, volatility = UNTOUCHED, right = number == 0 ? figures : UNTOUCHED;
+    uint64_t count = 7;
+    uint32_t found = quoter_sheet_quote(sheet, length, index, &total, &volatility, &count);
+    check(what, found == number && bits(total) == bits(right) && bits(volatility) == bits(right) && count == (number == QUOTER_NO_QUOTE ? 7 : 0));
+}
+
+static void known_quotes(void)
+{
+    static const uint8_t empty[4];
+    at("first quote", sample, sizeof sample, 0, 0, 0.0);
+    at("second quote", sample, sizeof sample, 1, 0, INFINITY);
+    at("third quote", sample, sizeof sample, 2, 7, 0.0);
+    at("fourth quote", sample, sizeof sample, 3, QUOTER_NO_QUOTE, 0.0);
+    at("quote 2^64", sample, sizeof sample, UINT64_MAX, QUOTER_NO_QUOTE, 0.0);
+    at("quote of an empty sheet", empty, sizeof empty, 0, QUOTER_NO_QUOTE, 0.0);
+    at("quote of a refused sheet", sample, sizeof sample - 1, 0, 10, 0.0);
+    at("no such quote of a refused sheet", sample, sizeof sample - 1, UINT64_MAX, 10, 0.0);
+    at("quote of no bytes", NULL, 0, 0, 10, 0.0);
+    check("QUOTER_NO_QUOTE", QUOTER_NO_QUOTE == 0xFFFFFFFFu);
+}
+
+/* A line: its letter, its bytes and their number where there is room, nothing where there is one byte less. */
+static void line(const char *what, const uint8_t *sheet, uint64_t length, uint32_t answers, uint32_t refusals, char letter, const char *right)
+{
+    uint8_t text[80], before[80];
+    uint64_t bytes = strlen(right), count = 7;
+    memset(text, '#', sizeof text);
+    memset(before, '#', sizeof before);
+    uint32_t found = quoter_sheet_line(sheet, length, answers, refusals, text, bytes - 1, &count);
+    check(what, found == 0 && count == 7 && memcmp(text, before, sizeof text) == 0);
+    found = quoter_sheet_line(sheet, length, answers, refusals, text, bytes, &count);
+    memcpy(before, right, bytes);
+    check(what, found == (uint32_t)letter && count == bytes && memcmp(text, before, sizeof text) == 0);
+}
+
+static void known_lines(void)
+{
+    static const uint8_t empty[4];
+    uint64_t count = 7;
+    line("first line", sample, sizeof sample, 0, 0, 'V', LINES[0]);
+    line("second line", sample, sizeof sample, 1, 0, 'V', LINES[1]);
+    line("third line", sample, sizeof sample, 2, 0, 'R', LINES[2]);
+    line("last line", sample, sizeof sample, 2, 1, 'T', LINES[3]);
+    line("tallies as given", sample, sizeof sample, UINT32_MAX, UINT32_MAX, 'T', "T 4294967295 4294967295\n");
+    line("empty sheet", empty, sizeof empty, 0, 0, 'T', "T 0 0\n");
+    line("refused sheet", sample, 3, 0, 0, 'S', "S 10\n");
+    line("refused sheet, later", sample, 3, 5, 5, 'S', "S 10\n");
+    line("no bytes", NULL, 0, 0, 0, 'S', "S 10\n");
+    check("no room and no pointer", quoter_sheet_line(sample, sizeof sample, 0, 0, NULL, 0, &count) == 0 && count == 7);
 }
 
 static int known(void)
 {
+    write_sample();
     known_values();
     known_replies();
     known_pair();
-    known_sheet();
+    known_modes();
+    known_sizes();
+    known_quotes();
+    known_lines();
     printf("%u checks, %u differ\n", run, differ);
     return differ > 0;
 }
@@ -207,23 +307,27 @@ static int vectors(void)
     return 0;
 }
 
-static int lines(const uint8_t *sheet, size_t length)
+/* Exit status 1 where a line is over the 46 bytes of the header, or the letter is not one that it names. */
+static int lines(const uint8_t *sheet, uint64_t length)
 {
-    uint8_t text[80];
+    uint8_t text[46];
     uint32_t answers = 0, refusals = 0;
     for (;;) {
-        size_t n = quoter_sheet_line(sheet, length, answers, refusals, text, sizeof text);
-        fwrite(text, 1, n, stdout);
-        if (n == 0 || text[0] == 'T' || text[0] == 'S')
-            return n == 0;
-        if (memchr(text, 'V', n) != NULL)
-            answers++;
-        else
-            refusals++;
+        uint64_t count = 0;
+        uint32_t letter = quoter_sheet_line(sheet, length, answers, refusals, text, sizeof text, &count);
+        fwrite(text, 1, (size_t)count, stdout);
+        switch (letter) {
+        case 'V': answers++; break;
+        case 'R': refusals++; break;
+        case 'T':
+        case 'S': return 0;
+        default: return 1;
+        }
     }
 }
 
-static int quotes(const uint8_t *sheet, size_t length)
+/* Exit status 1 where a quote takes more evaluations than the header says. */
+static int quotes(const uint8_t *sheet, uint64_t length)
 {
     uint32_t count = 0, answers = 0;
     uint32_t refused = quoter_sheet_size(sheet, length, &count);
@@ -235,6 +339,8 @@ static int quotes(const uint8_t *sheet, size_t length)
         double total = UNTOUCHED, volatility = UNTOUCHED;
         uint64_t evaluations = 0;
         uint32_t number = quoter_sheet_quote(sheet, length, i, &total, &volatility, &evaluations);
+        if (evaluations > 2263)
+            return 1;
         answers += number == 0;
         printf("%" PRIu32 " ", i + 1);
         print_reply(number, total, volatility, evaluations);

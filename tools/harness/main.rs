@@ -4,12 +4,15 @@ mod ours;
 
 use oracle::evaluations::counted;
 use oracle::functions::NAMES;
-use oracle::inputs::{self, Inputs, KINDS, Quotes, Rng};
+use oracle::inputs::{self, Inputs, KINDS, Quote, Quotes, Rng};
 use oracle::quote::Outcome;
 use oracle::{DefaultSpecialFn, explicit_black};
 use std::cell::Cell;
 use std::process::exit;
 use std::time::Instant;
+
+/// Every combination of figures at an edge.
+const CORNERS: &str = "corners";
 
 /// What either side answers; figures by their bits, every NaN alike.
 #[derive(Clone, Copy, Debug, PartialEq)]
@@ -35,6 +38,14 @@ impl Reply {
     }
     pub fn answer(total: f64, volatility: f64, count: u64) -> Reply {
         Reply::Answer { total: bits(total), volatility: bits(volatility), count }
+    }
+    /// How many evaluations it took, where that is counted.
+    fn count(self) -> u64 {
+        match self {
+            Reply::Root { count, .. } | Reply::NoRoot { count } => count,
+            Reply::Answer { count, .. } | Reply::Refusal { count, .. } => count,
+            Reply::Value(_) | Reply::Spent => 0,
+        }
     }
     /// A line for a reader: bits and, for figures, decimals.
     fn show(self) -> String {
@@ -158,6 +169,7 @@ fn function(number: u32, count: u64, seed: u64) -> u64 {
     let mut inputs = Inputs::new(number, seed);
     let mut rng = Rng::new(seed + 1);
     let mut tally = Tally::new(format!("{number} {}", name(number)));
+    let mut most = (0, [0.0; 3]);
     for i in 0..count {
         let input = if number > 21 && i % 8 == 7 { met(number, &mut rng) } else { inputs.next() };
         let [a, b, c] = input.map(f64::to_bits);
@@ -166,36 +178,104 @@ fn function(number: u32, count: u64, seed: u64) -> u64 {
             println!("{number} {}: not there", name(number));
             return 0;
         };
-        tally.compare(&[a, b, c], ours, oracle_reply(number, input));
+        let theirs = oracle_reply(number, input);
+        tally.compare(&[a, b, c], ours, theirs);
+        if theirs.count() > most.0 {
+            most = (theirs.count(), input);
+        }
     }
-    tally.end()
+    let differ = tally.end();
+    if let (1.., [a, b, _]) = most {
+        println!("  most evaluations {}: {a:?} {b:?}", most.0);
+    }
+    differ
 }
 
-fn oracle_quote(q: inputs::Quote) -> Reply {
+fn oracle_quote(q: Quote) -> Reply {
     oracle::quote::quote(q.side, q.price, q.forward, q.strike, q.time).into()
 }
 
-fn input_of(q: inputs::Quote) -> [u64; 5] {
+fn input_of(q: Quote) -> [u64; 5] {
     [q.side as u64, q.price.to_bits(), q.forward.to_bits(), q.strike.to_bits(), q.time.to_bits()]
 }
 
-#[cfg(quotes)]
-fn quotes(kind: usize, count: u64, seed: u64) -> u64 {
-    let mut source = Quotes::new(kind, seed);
-    let mut tally = Tally::new(format!("quotes, {}", KINDS[kind]));
-    for _ in 0..count {
-        let q = source.next();
-        CURRENT.with(|current| current.set(input_of(q)));
-        let ours = ours::quotes::quote(q.side, q.price, q.forward, q.strike, q.time);
-        tally.compare(&input_of(q), ours, oracle_quote(q));
+/// What the source answered over a run of quotes.
+struct Seen {
+    on_domain: u64,
+    answers: u64,
+    refusals: [u64; 10],
+    most: u64,
+    longest: Option<Quote>,
+}
+
+impl Seen {
+    fn new() -> Seen {
+        Seen { on_domain: 0, answers: 0, refusals: [0; 10], most: 0, longest: None }
     }
-    tally.end()
+    fn add(&mut self, q: Quote, reply: Reply) {
+        self.on_domain += oracle::quote::on_domain(q.side, q.price, q.forward, q.strike, q.time) as u64;
+        match reply {
+            Reply::Refusal { number, .. } => self.refusals[number as usize] += 1,
+            _ => self.answers += 1,
+        }
+        if reply.count() > self.most {
+            (self.most, self.longest) = (reply.count(), Some(q));
+        }
+    }
+    fn join(mut self, other: Seen) -> Seen {
+        self.on_domain += other.on_domain;
+        self.answers += other.answers;
+        (0..10).for_each(|i| self.refusals[i] += other.refusals[i]);
+        if other.most > self.most { Seen { most: other.most, longest: other.longest, ..self } } else { self }
+    }
+    fn show(&self) {
+        let refusals: Vec<String> = (1..10).map(|i| format!("{i}: {}", self.refusals[i])).collect();
+        println!("  {} on the domain; {} answers, refusals {}", self.on_domain, self.answers, refusals.join(", "));
+        if let Some(q) = self.longest {
+            let figures = [q.price, q.forward, q.strike, q.time].map(|x| format!("{x:?}")).join(" ");
+            println!("  most evaluations {}: {} {figures}", self.most, q.side);
+        }
+    }
+}
+
+/// Compares quotes until `count` on document 01's domain were compared; the corners only once.
+#[cfg(quotes)]
+fn quotes(kind: &str, count: u64, seed: u64) -> (u64, Seen) {
+    let source: Box<dyn Iterator<Item = Quote>> = match KINDS.iter().position(|&name| name == kind) {
+        Some(i) => {
+            let mut source = Quotes::new(i, seed);
+            Box::new(std::iter::from_fn(move || Some(source.next())))
+        }
+        None => Box::new(inputs::corners()),
+    };
+    let mut tally = Tally::new(format!("quotes, {kind}"));
+    let mut seen = Seen::new();
+    for q in source {
+        CURRENT.with(|current| current.set(input_of(q)));
+        let theirs = oracle_quote(q);
+        tally.compare(&input_of(q), ours::quotes::quote(q.side, q.price, q.forward, q.strike, q.time), theirs);
+        seen.add(q, theirs);
+        if seen.on_domain == count && kind != CORNERS {
+            break;
+        }
+    }
+    let differ = tally.end();
+    seen.show();
+    (differ, seen)
 }
 
 #[cfg(not(quotes))]
-fn quotes(kind: usize, _: u64, _: u64) -> u64 {
-    println!("quotes, {}: not there", KINDS[kind]);
-    0
+fn quotes(kind: &str, _: u64, _: u64) -> (u64, Seen) {
+    println!("quotes, {kind}: not there");
+    (0, Seen::new())
+}
+
+fn every_quote(count: u64, seed: u64) -> u64 {
+    let runs = [CORNERS].into_iter().chain(KINDS).map(|kind| quotes(kind, count, seed));
+    let (differ, seen) = runs.reduce(|(d, all), (e, seen)| (d + e, all.join(seen))).unwrap();
+    println!("quotes in all: {differ} differ");
+    seen.show();
+    differ
 }
 
 /// Scaled and exchanged pairs: refusal number, or total, and count agree.
@@ -211,7 +291,7 @@ fn pairs(count: u64, seed: u64) -> u64 {
                 refusal => refusal,
             };
             #[cfg(quotes)]
-            let answer = |q: inputs::Quote| ours::quotes::quote(q.side, q.price, q.forward, q.strike, q.time);
+            let answer = |q: Quote| ours::quotes::quote(q.side, q.price, q.forward, q.strike, q.time);
             #[cfg(not(quotes))]
             let answer = oracle_quote;
             tally.compare(&[input_of(q), input_of(other)].concat(), untimed(answer(q)), untimed(answer(other)));
@@ -221,8 +301,8 @@ fn pairs(count: u64, seed: u64) -> u64 {
     differ
 }
 
-/// The oracle's own checks: exp, ln, ln_1p beside the platform's; its quotes beside the source's two functions.
-fn check_oracle(count: u64, seed: u64) -> u64 {
+/// The stand-ins beside the platform's exp, ln and ln_1p: how many units in the last place are between them at most.
+fn standins(count: u64, seed: u64) {
     let place = |x: f64| {
         let size = (x.to_bits() & !(1 << 63)) as i64;
         if x.is_sign_negative() { -size } else { size }
@@ -245,58 +325,14 @@ fn check_oracle(count: u64, seed: u64) -> u64 {
             name(number)
         );
     }
-    let mut differ = 0;
-    for kind in 0..KINDS.len() {
-        let mut source = Quotes::new(kind, seed);
-        let (mut run, mut unlike, mut refused) = (0, 0, 0);
-        for _ in 0..count {
-            let q = source.next();
-            let figures = [q.price, q.forward, q.strike, q.time];
-            if q.side > 1
-                || !figures.iter().all(|x| x.is_finite())
-                || !(q.forward > 0.0 && q.strike > 0.0 && q.time >= 0.0)
-            {
-                continue;
-            }
-            run += 1;
-            let theirs = if q.side == 0 {
-                explicit_black::implied_black_volatility_input::<DefaultSpecialFn, true>(
-                    q.price, q.forward, q.strike, q.time,
-                )
-            } else {
-                explicit_black::implied_black_volatility_input::<DefaultSpecialFn, false>(
-                    q.price, q.forward, q.strike, q.time,
-                )
-            };
-            let same = match (oracle::quote::quote(q.side, q.price, q.forward, q.strike, q.time), theirs) {
-                (Outcome::Answer { volatility, .. }, Some(v)) => volatility.to_bits() == v.to_bits(),
-                (Outcome::Refusal { .. }, None) => true,
-                (Outcome::Refusal { number: 9, .. }, Some(v)) => {
-                    refused += 1;
-                    if refused <= 5 {
-                        println!("  refusal 9 where the source gives {v:e}: {:016x?}", input_of(q));
-                    }
-                    true
-                }
-                _ => false,
-            };
-            if !same {
-                unlike += 1;
-                println!("  unlike the source: {:016x?}", input_of(q));
-            }
-        }
-        differ += unlike;
-        println!("source, {}: {run} run, {unlike} unlike, {refused} refused by the departure", KINDS[kind]);
-    }
-    differ
 }
 
 fn usage() -> ! {
     eprintln!(
         "usage: harness FUNCTION COUNT SEED        a function of vectors (1 to 21), a search (22, 23), or `all`
-       harness quotes KIND COUNT SEED     KIND: {} or all
+       harness quotes KIND COUNT SEED     COUNT on document 01's domain; KIND: {CORNERS}, {} or all
        harness pairs COUNT SEED           scaled and exchanged pairs against each other
-       harness oracle COUNT SEED          the oracle against the platform's exp, ln, ln_1p and the source's entries",
+       harness standins COUNT SEED        document 01's exp, ln, ln_1p beside the platform's; nothing is asked of them",
         KINDS.join(", ")
     );
     exit(2)
@@ -308,12 +344,15 @@ fn main() {
     let number = |text: &String| text.parse::<u64>().unwrap_or_else(|_| usage());
     let words: Vec<&str> = args.iter().map(String::as_str).collect();
     let differ = match words[..] {
-        ["quotes", kind, _, _] => (0..KINDS.len())
-            .filter(|&i| kind == "all" || KINDS[i] == kind)
-            .map(|i| quotes(i, number(&args[2]), number(&args[3])))
-            .sum(),
+        ["quotes", "all", _, _] => every_quote(number(&args[2]), number(&args[3])),
+        ["quotes", kind, _, _] if kind == CORNERS || KINDS.contains(&kind) => {
+            quotes(kind, number(&args[2]), number(&args[3])).0
+        }
         ["pairs", _, _] => pairs(number(&args[1]), number(&args[2])),
-        ["oracle", _, _] => check_oracle(number(&args[1]), number(&args[2])),
+        ["standins", _, _] => {
+            standins(number(&args[1]), number(&args[2]));
+            0
+        }
         ["all", _, _] => (1..=23).map(|f| function(f, number(&args[1]), number(&args[2]))).sum(),
         [f, _, _] if f.parse::<u32>().is_ok_and(|f| (1..=23).contains(&f)) => {
             function(number(&args[0]) as u32, number(&args[1]), number(&args[2]))

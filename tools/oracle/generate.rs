@@ -5,7 +5,7 @@ mod inputs;
 #[allow(dead_code)]
 mod standin;
 
-use inputs::{Inputs, KINDS, Quotes};
+use inputs::{Inputs, KINDS, Quote, Quotes, kept};
 use std::io::{self, BufWriter, Write};
 use std::process::exit;
 
@@ -13,48 +13,68 @@ fn usage() -> ! {
     eprintln!(
         "usage: generate vectors FUNCTION COUNT SEED   records of one function (1 to 21): its edges, then drawn ones
        generate sample FUNCTION COUNT SEED    the same, half edges spread evenly, half drawn
-       generate sheet KIND COUNT SEED         a sheet of quotes; KIND: {} or mixed",
+       generate sheet KIND COUNT SEED         a sheet of quotes; KIND: {} or mixed
+       generate kept SEED                     the sheet that the repository keeps: 1,000 quotes, document 01's first",
         KINDS.join(", ")
     );
     exit(2)
 }
 
-fn main() -> io::Result<()> {
-    let args: Vec<String> = std::env::args().skip(1).collect();
-    let [command, what, count, seed] = &args[..] else { usage() };
-    let number = |text: &String| text.parse::<u64>().unwrap_or_else(|_| usage());
-    let (count, seed) = (number(count) as usize, number(seed));
-    let mut out = BufWriter::with_capacity(1 << 20, io::stdout().lock());
-    if command == "sheet" {
-        out.write_all(&(count as u32).to_be_bytes())?;
-        let kinds: Vec<usize> = (0..KINDS.len()).filter(|&i| what == "mixed" || KINDS[i] == what).collect();
-        if kinds.is_empty() {
-            usage();
+/// A sheet in XDR.
+fn put_sheet(quotes: &[Quote], out: &mut impl Write) -> io::Result<()> {
+    out.write_all(&(quotes.len() as u32).to_be_bytes())?;
+    for q in quotes {
+        out.write_all(&q.side.to_be_bytes())?;
+        for figure in [q.price, q.forward, q.strike, q.time] {
+            out.write_all(&figure.to_bits().to_be_bytes())?;
         }
-        let mut quotes: Vec<Quotes> = kinds.iter().map(|&i| Quotes::new(i, seed)).collect();
-        for i in 0..count {
-            let q = quotes[i % kinds.len()].next();
-            out.write_all(&q.side.to_be_bytes())?;
-            for figure in [q.price, q.forward, q.strike, q.time] {
-                out.write_all(&figure.to_bits().to_be_bytes())?;
-            }
-        }
-        return out.flush();
     }
-    let function = number(what) as u32;
-    if !(1..=21).contains(&function) {
+    Ok(())
+}
+
+/// Quotes of one kind, or of all in turn.
+fn drawn(kind: &str, count: usize, seed: u64) -> Vec<Quote> {
+    let kinds = (0..KINDS.len()).filter(|&i| kind == "mixed" || KINDS[i] == kind);
+    let mut quotes: Vec<Quotes> = kinds.map(|i| Quotes::new(i, seed)).collect();
+    if quotes.is_empty() {
         usage();
     }
-    let mut put = |record: [f64; 3]| -> io::Result<()> {
+    let n = quotes.len();
+    (0..count).map(|i| quotes[i % n].next()).collect()
+}
+
+/// Records for `vectors`.
+fn put_records(function: u32, records: impl Iterator<Item = [f64; 3]>, out: &mut impl Write) -> io::Result<()> {
+    for record in records {
         out.write_all(&function.to_be_bytes())?;
-        record.iter().try_for_each(|figure| out.write_all(&figure.to_bits().to_be_bytes()))
-    };
-    match command.as_str() {
-        "vectors" => {
-            let mut inputs = Inputs::new(function, seed);
-            (0..count).try_for_each(|_| put(inputs.next()))?;
+        record.iter().try_for_each(|figure| out.write_all(&figure.to_bits().to_be_bytes()))?;
+    }
+    Ok(())
+}
+
+fn number(text: &str) -> u64 {
+    text.parse().unwrap_or_else(|_| usage())
+}
+
+fn function(text: &str) -> u32 {
+    let function = number(text) as u32;
+    if (1..=21).contains(&function) { function } else { usage() }
+}
+
+fn main() -> io::Result<()> {
+    let args: Vec<String> = std::env::args().skip(1).collect();
+    let mut out = BufWriter::with_capacity(1 << 20, io::stdout().lock());
+    match args.iter().map(String::as_str).collect::<Vec<_>>()[..] {
+        ["kept", seed] => put_sheet(&kept(number(seed)), &mut out)?,
+        ["sheet", kind, count, seed] => put_sheet(&drawn(kind, number(count) as usize, number(seed)), &mut out)?,
+        ["vectors", name, count, seed] => {
+            let mut inputs = Inputs::new(function(name), number(seed));
+            put_records(function(name), (0..number(count)).map(|_| inputs.next()), &mut out)?
         }
-        "sample" => Inputs::sample(function, seed, count).into_iter().try_for_each(&mut put)?,
+        ["sample", name, count, seed] => {
+            let records = Inputs::sample(function(name), number(seed), number(count) as usize);
+            put_records(function(name), records.into_iter(), &mut out)?
+        }
         _ => usage(),
     }
     out.flush()

@@ -878,6 +878,156 @@ pub fn pair(rng: &mut Rng, exchanged: bool) -> [Quote; 2] {
     }
 }
 
+/// A quote whose search is taken: a time value above 0 and below its bound, under 1e-5 of it for the survival path.
+fn searched(rng: &mut Rng, on_survival_path: bool) -> Quote {
+    let mut q = desk(rng);
+    if q.strike == q.forward {
+        q.strike = step(q.forward, 1 + rng.below(9) as i64);
+    }
+    let least = if q.forward < q.strike { q.forward } else { q.strike };
+    let gap = if q.side == 0 { q.forward - q.strike } else { q.strike - q.forward };
+    let share = match (on_survival_path, rng.below(3)) {
+        (true, 0) => rng.magnitude(-18, -17),
+        (true, 1) => rng.magnitude(-60, -18),
+        (true, _) => rng.magnitude(-1000, -18),
+        (false, 0) => 1.0 - rng.magnitude(-52, -1),
+        (false, 1) => rng.magnitude(-16, -1),
+        (false, _) => rng.unit(),
+    };
+    // Added to an intrinsic value, a small time value would be lost.
+    if gap > 0.0 && share < 1.0e-4 {
+        q.side = 1 - q.side;
+    }
+    q.price = if gap > 0.0 && share >= 1.0e-4 { gap + least * share } else { least * share };
+    q
+}
+
+fn quote(side: u32, price: f64, forward: f64, strike: f64, time: f64) -> Quote {
+    Quote { side, price, forward, strike, time }
+}
+
+/// Two quotes, each followed by itself with price, forward and strike doubled. The first two have other totals; of the other two one is
+/// refused and one is answered. Only scaling by 4^n keeps a quote's total and refusal.
+fn doubled() -> [Quote; 4] {
+    let below = 1.0 - power(-53);
+    [
+        quote(0, 1.0, 2.0, 2.0, 1.0),
+        quote(0, 2.0, 4.0, 4.0, 1.0),
+        quote(0, below, 1.0, 18.0, 1.0),
+        quote(0, 2.0 * below, 2.0, 36.0, 1.0),
+    ]
+}
+
+/// Document 01's quotes: the sample sheet, the table's examples with one for 8, and the keystrokes.
+fn examples() -> Vec<Quote> {
+    let tiny = power(-1074);
+    vec![
+        quote(0, 0.0, 100.0, 120.0, 1.0),
+        quote(0, 100.0, 100.0, 120.0, 1.0),
+        quote(1, 5.0, 100.0, 120.0, 1.0),
+        quote(2, 1.0, 100.0, 100.0, 1.0),
+        quote(0, f64::NAN, 100.0, 100.0, 1.0),
+        quote(0, 1.0, 0.0, 100.0, 1.0),
+        quote(0, 1.0, 100.0, 100.0, -1.0),
+        quote(0, 19.0, 120.0, 100.0, 0.0),
+        quote(0, 101.0, 100.0, 120.0, 1.0),
+        quote(1, 92.07499999999999, 184.15, 92.075, 1.0),
+        quote(0, 20.0, 120.0, 100.0, 0.0),
+        quote(0, step(100.0, 1), 100.0, 120.0, 1.0),
+        quote(0, 1.0, 100.0, 120.0, 1.0),
+        quote(1, 4.0, 480.0, 400.0, 1.0),
+        quote(0, 4.0 * tiny, 5.0 * tiny, 2.0 * tiny, 1.0),
+        quote(1, tiny, 5.0 * tiny, 2.0 * tiny, 1.0),
+    ]
+}
+
+/// The quote with the most evaluations, 102, of 20 million whose strike is next to its forward and whose price is close under 1e-5 of it.
+fn longest() -> Quote {
+    quote(0, 1.605782568808638e-5, 1.7887685143148444, 1.7887685143148446, 1.0)
+}
+
+/// Minus zero as price and as time, and a time value that divides to minus zero.
+fn minus_zeros() -> Vec<Quote> {
+    let tiny = power(-1074);
+    let mut list = vec![
+        quote(0, 20.0, 120.0, 100.0, -0.0),
+        quote(0, 19.0, 120.0, 100.0, -0.0),
+        quote(0, -tiny, 1.0, 1.0, 1.0),
+        quote(0, -tiny, 4.0, 4.0, 1.0),
+        quote(1, -tiny, 4.0, 4.0, 1.0),
+        quote(0, 1.0, -0.0, 100.0, 1.0),
+        quote(0, 1.0, 100.0, -0.0, 1.0),
+    ];
+    for (forward, strike) in [(100.0, 120.0), (120.0, 100.0), (100.0, 100.0)] {
+        for time in [1.0, 0.0, -0.0] {
+            list.extend([0, 1].map(|side| quote(side, -0.0, forward, strike, time)));
+        }
+    }
+    list
+}
+
+/// Each figure NaN, infinite, zero or below zero, for every side and for two figures at once: the order of tests 1 to 4.
+fn refused() -> Vec<Quote> {
+    let place = |figures: [f64; 4], side: u32| quote(side, figures[0], figures[1], figures[2], figures[3]);
+    let good = [1.0, 100.0, 120.0, 1.0];
+    let bad = NANS.map(f64::from_bits).into_iter().chain([f64::INFINITY, f64::NEG_INFINITY, 0.0, -1.0]);
+    let mut list = Vec::new();
+    for (n, x) in bad.enumerate() {
+        for i in 0..4 {
+            let mut figures = good;
+            figures[i] = x;
+            list.push(place(figures, (n % 2) as u32));
+        }
+    }
+    for side in [2, 3, 256, 1 << 31, u32::MAX] {
+        list.push(place([f64::NAN, 0.0, 100.0, -1.0], side));
+    }
+    list.push(place([f64::NAN, 0.0, 120.0, -1.0], 0));
+    list.push(place([1.0, 100.0, 0.0, f64::INFINITY], 1));
+    list.push(place([1.0, 0.0, 120.0, -1.0], 0));
+    list.push(place([1.0, 100.0, -1.0, -1.0], 1));
+    list
+}
+
+/// The quotes of the sheet that the repository keeps: 1,000.
+pub fn kept(seed: u64) -> Vec<Quote> {
+    let mut list = [examples(), doubled().to_vec(), vec![longest()], minus_zeros(), refused()].concat();
+    let mut rng = Rng::new(seed);
+    for on_survival_path in [true, false] {
+        list.extend((0..125).map(|_| searched(&mut rng, on_survival_path)));
+    }
+    let mut kinds: Vec<Quotes> = (0..KINDS.len()).map(|kind| Quotes::new(kind, seed)).collect();
+    let drawn = list.len();
+    list.extend((drawn..1000).map(|i| kinds[i % KINDS.len()].next()));
+    list
+}
+
+/// Every combination of a side, a forward, a strike and a time at an edge with a price at an edge or next to a branch of that quote; all
+/// are on document 01's domain.
+pub fn corners() -> impl Iterator<Item = Quote> {
+    let above: Vec<f64> = edges().into_iter().filter(|&x| x.is_finite() && x > 0.0).collect();
+    let times = [0.0, -0.0, power(-1074), f64::MIN_POSITIVE, 0.25, 1.0, 2.0, f64::MAX];
+    let (forwards, strikes) = (above.clone(), above);
+    let pairs = forwards.into_iter().flat_map(move |f| strikes.clone().into_iter().map(move |k| (f, k)));
+    pairs.flat_map(move |(forward, strike)| {
+        [0, 1].into_iter().flat_map(move |side| {
+            let prices = corner_prices(side, forward, strike);
+            prices.into_iter().flat_map(move |price| times.map(|time| quote(side, price, forward, strike, time)))
+        })
+    })
+}
+
+fn corner_prices(side: u32, forward: f64, strike: f64) -> Vec<f64> {
+    let (bound, gap) = if side == 0 { (forward, forward - strike) } else { (strike, strike - forward) };
+    let floor = if gap > 0.0 { gap } else { 0.0 };
+    let least = if forward < strike { forward } else { strike };
+    let roots = forward.sqrt() * strike.sqrt();
+    let branches = [bound, floor, floor + least, floor + f64::MIN_POSITIVE * roots, floor + 1.0e-5 * least];
+    let near = branches.iter().flat_map(|&x| [step(x, -1), x, step(x, 1)]);
+    let inside = [1.0e-300, 1.0e-12, 0.125, 0.5, 0.875].map(|share| floor + least * share);
+    near.chain(inside).chain(edges()).filter(|x| x.is_finite()).collect()
+}
+
 /// Quotes of one kind, without end; a pair's two quotes follow each other.
 pub struct Quotes {
     kind: usize,

@@ -1,10 +1,10 @@
-//! Document 01's entries over the source's solver: refusals 1 to 9 in their order, total volatility, volatility, count.
+//! Document 01's entries around the source's own two: tests 1 to 4 before the call, a `None` as one of 5 to 9, departure two after it.
 
 use crate::DefaultSpecialFn;
 use crate::evaluations::counted;
-use crate::explicit_black::implied_black_volatility_normalised;
+use crate::explicit_black::{implied_black_volatility_input, implied_black_volatility_normalised};
 use crate::lets_be_rational::bs_option_price::negative_abs_log_moneyness;
-use crate::standin::{exp, max};
+use crate::standin::exp;
 
 #[derive(Clone, Copy, Debug)]
 pub enum Outcome {
@@ -24,83 +24,105 @@ impl Outcome {
     }
 }
 
-/// The source's total volatility, or refusal 8 or 9; for figures that are finite and a price at or above 0.
-fn total_volatility(log_moneyness: f64, price: f64) -> Result<f64, u32> {
-    let abs_x = log_moneyness.abs();
-    let b_max = exp(-0.5 * abs_x);
-    if price > 0.0 && price > b_max {
-        return Err(8);
+/// Tests 1 to 4, which the source does not make.
+fn first_refusal(side: u32, price: f64, forward: f64, strike: f64, time: f64) -> Option<u32> {
+    if side > 1 {
+        return Some(1);
     }
-    let total = implied_black_volatility_normalised::<DefaultSpecialFn>(log_moneyness, price).ok_or(9u32)?;
-    if price == 0.0 || price == b_max {
-        return Ok(total);
+    if [price, forward, strike, time].iter().any(|figure| !figure.is_finite()) {
+        return Some(2);
     }
-    if abs_x == 0.0 {
-        return if total.is_nan() || total < 0.0 { Err(9) } else { Ok(total) };
+    if !(forward > 0.0 && strike > 0.0) {
+        return Some(3);
     }
-    let otm_call_price = price / b_max;
-    let probability = 1.0 - otm_call_price;
-    let searched = otm_call_price < 1.0e-5 || (probability > 0.0 && probability < 1.0);
-    // 2 / √root is finite and above 0 exactly where the root is.
-    if searched && !(total.is_finite() && total > 0.0) {
-        return Err(9);
-    }
-    Ok(total)
+    (time < 0.0).then_some(4)
 }
 
-fn outcome(time: f64, solve: impl FnOnce() -> Result<f64, u32>) -> Outcome {
-    match counted(solve) {
-        (Ok(total), count) => {
-            let volatility = if time == 0.0 { 0.0 } else { total / time.sqrt() };
-            Outcome::Answer { total, volatility, count }
-        }
-        (Err(number), count) => Outcome::Refusal { number, count },
+/// Whether document 01 has tests 1 to 4 pass: the domain on which the answer is the source's.
+pub fn on_domain(side: u32, price: f64, forward: f64, strike: f64, time: f64) -> bool {
+    first_refusal(side, price, forward, strike, time).is_none()
+}
+
+/// The source's quote entry.
+pub fn input(side: u32, price: f64, forward: f64, strike: f64, time: f64) -> Option<f64> {
+    if side == 0 {
+        implied_black_volatility_input::<DefaultSpecialFn, true>(price, forward, strike, time)
+    } else {
+        implied_black_volatility_input::<DefaultSpecialFn, false>(price, forward, strike, time)
     }
+}
+
+/// The table's number for a `None` of the normalised entry.
+fn normalised_number(log_moneyness: f64, price: f64) -> u32 {
+    if price < 0.0 {
+        7
+    } else if price > exp(-0.5 * log_moneyness.abs()) {
+        8
+    } else {
+        9
+    }
+}
+
+/// The table's number for a `None` of the quote entry.
+fn number(side: u32, price: f64, forward: f64, strike: f64, time: f64) -> u32 {
+    let (bound, intrinsic) = if side == 0 { (forward, forward - strike) } else { (strike, strike - forward) };
+    if time == 0.0 {
+        return 5;
+    }
+    if price > bound {
+        return 6;
+    }
+    let time_value = if intrinsic > 0.0 { price - intrinsic } else { price };
+    normalised_number(negative_abs_log_moneyness(forward, strike), time_value / (forward.sqrt() * strike.sqrt()))
+}
+
+/// Departure two, told from what came out. A path with an evaluation ends in 2 / √root, which is finite and above 0 exactly where the
+/// root is; one without ends in 0, in infinity or in the value at the money.
+fn departs(total: f64, count: u64) -> bool {
+    if count > 0 { !(total.is_finite() && total > 0.0) } else { total.is_nan() || total < 0.0 }
+}
+
+fn same(x: f64, y: f64) -> bool {
+    x.to_bits() == y.to_bits() || (x.is_nan() && y.is_nan())
+}
+
+/// The outcome from the source's volatility and total; `number` is asked for where it gave none.
+fn outcome(volatility: Option<f64>, total: Option<f64>, count: u64, number: impl FnOnce() -> u32) -> Outcome {
+    let (Some(volatility), Some(total)) = (volatility, total) else {
+        let number = number();
+        assert!(volatility.is_none() && total.is_none(), "a volatility without a total, or a total without one");
+        assert!(count == 0 || number == 9, "refusal {number} after {count} evaluations");
+        return Outcome::Refusal { number, count };
+    };
+    if departs(total, count) {
+        return Outcome::Refusal { number: 9, count };
+    }
+    Outcome::Answer { total, volatility, count }
 }
 
 /// The normalised entry.
 pub fn normalised(log_moneyness: f64, price: f64) -> Outcome {
-    outcome(1.0, || {
-        if !log_moneyness.is_finite() || !price.is_finite() {
-            return Err(2);
-        }
-        if price < 0.0 {
-            return Err(7);
-        }
-        total_volatility(log_moneyness, price)
-    })
+    if !log_moneyness.is_finite() || !price.is_finite() {
+        return Outcome::Refusal { number: 2, count: 0 };
+    }
+    let (total, count) = counted(|| implied_black_volatility_normalised::<DefaultSpecialFn>(log_moneyness, price));
+    outcome(total, total, count, || normalised_number(log_moneyness, price))
 }
 
-/// The quote entry.
+/// The quote entry. Its total is the source's value at time 1: a division by √1 changes nothing, and what comes before it turns only on
+/// whether the time is zero. At time zero it is 0.
 pub fn quote(side: u32, price: f64, forward: f64, strike: f64, time: f64) -> Outcome {
-    outcome(time, || {
-        if side > 1 {
-            return Err(1);
-        }
-        if [price, forward, strike, time].iter().any(|figure| !figure.is_finite()) {
-            return Err(2);
-        }
-        if !(forward > 0.0 && strike > 0.0) {
-            return Err(3);
-        }
-        if time < 0.0 {
-            return Err(4);
-        }
-        let (bound, intrinsic) = if side == 0 { (forward, forward - strike) } else { (strike, strike - forward) };
-        if time == 0.0 {
-            return if price == max(intrinsic, 0.0) { Ok(0.0) } else { Err(5) };
-        }
-        if price > bound {
-            return Err(6);
-        }
-        if price == bound {
-            return Ok(f64::INFINITY);
-        }
-        let time_value = if intrinsic > 0.0 { price - intrinsic } else { price };
-        let normalised_time_value = time_value / (forward.sqrt() * strike.sqrt());
-        if normalised_time_value <= f64::MIN_POSITIVE {
-            return if normalised_time_value >= 0.0 { Ok(0.0) } else { Err(7) };
-        }
-        total_volatility(negative_abs_log_moneyness(forward, strike), normalised_time_value)
-    })
+    if let Some(number) = first_refusal(side, price, forward, strike, time) {
+        return Outcome::Refusal { number, count: 0 };
+    }
+    let at = |time: f64| counted(|| input(side, price, forward, strike, time));
+    let (volatility, count) = at(time);
+    let (total, at_one) = if time == 0.0 { (volatility.map(|_| 0.0), count) } else { at(1.0) };
+    assert_eq!(count, at_one, "evaluations at the quote's time and at time 1");
+    let result = outcome(volatility, total, count, || number(side, price, forward, strike, time));
+    if let Outcome::Answer { total, volatility, .. } = result {
+        let right = if time == 0.0 { 0.0 } else { total / time.sqrt() };
+        assert!(same(volatility, right), "the source's volatility {volatility:e} is not {total:e} / √{time:e}");
+    }
+    result
 }

@@ -10,6 +10,14 @@ use Rattle.arithmetic.specs.declared.mul_add.Terms.{Terms}
 use Rattle.arithmetic.specs.declared.mul_add.Short.{Short}
 use Rattle.arithmetic.specs.Words.{val}
 
+-- exponents of the terms, counted from the product's scale 2 ^ -2148, are below this
+abbrev pub exponents : ℕ
+exponents = 4096
+
+-- and those of the rounded sum, counted from 2 ^ -1074, below this
+abbrev pub keptExponents : ℕ
+keptExponents = 3200
+
 -- r has the sign and the magnitude of x
 pub record Decoded (x : Float) (r : Parts) : Type 0 where
   pub value : HasValue x (r .negative) (r .m * 2 ^ r .j) (2 ^ 1074)
@@ -20,15 +28,15 @@ pub record Decoded (x : Float) (r : Parts) : Type 0 where
 -- r serves as the exponent of the product of u and v
 pub record Exponent (u v : Parts) (r : ℕ) : Type 0 where
   pub value : u .m * v .m * 2 ^ r ≡ u .m * v .m * 2 ^ (u .j + v .j)
-  pub low : r < 4096
+  pub low : r < exponents
   pub lead : 1074 < r → 2 ^ 52 ≤ u .m * v .m
 
 -- a product p * 2 ^ ep and an addend m * 2 ^ em: each has its leading digits where its exponent is above the least
 pub record Operands (p ep m em : ℕ) : Type 0 where
   pub product-small : p < 2 ^ 106
   pub addend-small : m < 2 ^ 53
-  pub product-low : ep < 4096
-  pub addend-low : em < 4096
+  pub product-low : ep < exponents
+  pub addend-low : em < exponents
   pub addend-least : 1074 ≤ em
   pub product-lead : 1074 < ep → 2 ^ 52 ≤ p
   pub addend-lead : 1074 < em → 2 ^ 52 ≤ m
@@ -38,12 +46,12 @@ pub record Aligned (p ep m em : ℕ) (r : Terms) : Type 0 where
   pub same : (s t : Bool) → sum binary64 s (p * 2 ^ ep) t (m * 2 ^ em) (2 ^ 2148) ≡ sum binary64 s (val (r .a) * 2 ^ r .e) t (val (r .b) * 2 ^ r .e) (2 ^ 2148)
   pub first-small : val (r .a) < 2 ^ 127
   pub second-small : val (r .b) < 2 ^ 127
-  pub low : r .e < 4096
+  pub low : r .e < exponents
 
 -- m / 4 rounds as n does where its `k` last digits are dropped
 pub record Shortened (n : ℕ) (r : Short) : Type 0 where
   pub count : r .k ≡ size (n / 2 ^ 1074) - 53
   pub same : closest n (2 ^ (1074 + r .k)) ≡ closest (r .m) 4
   pub short : r .m < 2 ^ 55
-  pub low : r .k < 3200
+  pub low : r .k < keptExponents
   pub lead : 0 < r .k → 2 ^ 54 ≤ r .m

@@ -1,6 +1,7 @@
 // Layer one: the arithmetic of binary64 that no operator gives.
 pub mod basic;
 pub mod exp;
+pub mod format;
 pub mod fused_multiply_add;
 pub mod ln;
 pub mod mul_add;

@@ -8,11 +8,26 @@ ghost use lib.Ieee.{binary64};
 ghost use lib.Ieee.Scale.{finite};
 ghost use lib.Ieee.Nearest.{closest};
 ghost use Rattle.arithmetic.specs.Words.{val};
-ghost use Rattle.arithmetic.specs.Steps.{Decoded, Exponent, Operands, Aligned, Shortened};
+ghost use Rattle.arithmetic.specs.Steps.{exponents, keptExponents, Decoded, Exponent, Operands, Aligned, Shortened};
 ghost use Rattle.arithmetic.specs.MulAdd.{mulAdd};
 use super::basic::is_finite;
+use super::format::EXPONENT_FIELD;
+use super::format::FRACTION_DIGITS;
+use super::format::FRACTION_FIELD;
+use super::format::INFINITY;
+use super::format::LEADING_DIGIT;
+use super::format::LOWEST;
+use super::format::NORMAL_DIGITS;
+use super::format::PRECISION;
+use super::format::SIGN;
 use super::pair;
 use super::pair::Pair;
+
+// Binary digits of one half of a pair.
+const WORD: u64 = 64;
+
+// A product has 106 binary digits at most, and can be shifted up by so many within a pair.
+const HEADROOM: u64 = 20;
 
 // The sign, and the magnitude m * 2^j in units of 2^-1074.
 pub struct Parts {
@@ -40,9 +55,9 @@ fn decode(x: f64) -> Parts
     ensures { λ r. ⌜ Decoded x r ⌝ }
 {
     let bits = f64::to_bits(x);
-    let negative = 0x8000_0000_0000_0000 <= bits;
-    let field = (bits >> 52) & 0x7ff;
-    let digits = bits & 0xf_ffff_ffff_ffff;
+    let negative = SIGN <= bits;
+    let field = (bits >> FRACTION_DIGITS) & EXPONENT_FIELD;
+    let digits = bits & FRACTION_FIELD;
     if field == 0 {
         Parts {
             negative,
@@ -52,7 +67,7 @@ fn decode(x: f64) -> Parts
     } else {
         Parts {
             negative,
-            m: digits + 0x10_0000_0000_0000,
+            m: digits + LEADING_DIGIT,
             j: field - 1,
         }
     }
@@ -67,7 +82,7 @@ fn align(p: Pair, ep: u64, m: u64, em: u64) -> Terms
     let b = Pair { hi: 0, lo: m };
     if ep <= em {
         let d = em - ep;
-        if d <= 64 {
+        if d <= WORD {
             Terms {
                 a: p,
                 b: pair::up(b, d),
@@ -75,14 +90,14 @@ fn align(p: Pair, ep: u64, m: u64, em: u64) -> Terms
             }
         } else {
             Terms {
-                a: pair::jam(p, d - 64),
+                a: pair::jam(p, d - WORD),
                 b: Pair { hi: m, lo: 0 },
-                e: em - 64,
+                e: em - WORD,
             }
         }
     } else {
         let d = ep - em;
-        if d <= 20 {
+        if d <= HEADROOM {
             Terms {
                 a: pair::up(p, d),
                 b,
@@ -90,9 +105,9 @@ fn align(p: Pair, ep: u64, m: u64, em: u64) -> Terms
             }
         } else {
             Terms {
-                a: pair::up(p, 20),
-                b: pair::jam(b, d - 20),
-                e: ep - 20,
+                a: pair::up(p, HEADROOM),
+                b: pair::jam(b, d - HEADROOM),
+                e: ep - HEADROOM,
             }
         }
     }
@@ -101,36 +116,36 @@ fn align(p: Pair, ep: u64, m: u64, em: u64) -> Terms
 // v * 2^e, in units of 2^-2148, cut down to the digits that a result keeps and two more, the last
 // of them jammed.
 fn shorten(v: Pair, e: u64) -> Short
-    requires { ⌜ e < 4096 ⌝ }
+    requires { ⌜ e < exponents ⌝ }
     ensures { λ r. ⌜ Shortened (val v * 2 ^ e) r ⌝ }
 {
     let n = pair::digits(v);
     if n == 0 {
         return Short { m: 0, k: 0 };
     }
-    if n + e < 1127 {
-        cut(v, n, e, 1074)
+    if n + e < NORMAL_DIGITS {
+        cut(v, n, e, LOWEST)
     } else {
-        cut(v, n, e, n + e - 53)
+        cut(v, n, e, n + e - PRECISION)
     }
 }
 
 // The same, for a v of n digits, above the place `at`.
 fn cut(v: Pair, n: u64, e: u64, at: u64) -> Short
-    requires { ⌜ n ≡ Ieee.size (val v) ⌝ ∗ ⌜ 0 < n ⌝ ∗ ⌜ e < 4096 ⌝ ∗ ⌜ at ≡ 1074 + (n + e - 1127) ⌝ }
+    requires { ⌜ n ≡ Ieee.size (val v) ⌝ ∗ ⌜ 0 < n ⌝ ∗ ⌜ e < exponents ⌝ ∗ ⌜ at ≡ 1074 + (n + e - 1127) ⌝ }
     ensures { λ r. ⌜ Shortened (val v * 2 ^ e) r ⌝ }
 {
     if e + 2 <= at {
         let m = pair::jam(v, at - e - 2);
         Short {
             m: m.lo,
-            k: at - 1074,
+            k: at - LOWEST,
         }
     } else {
         let m = pair::up(v, e + 2 - at);
         Short {
             m: m.lo,
-            k: at - 1074,
+            k: at - LOWEST,
         }
     }
 }
@@ -157,7 +172,7 @@ fn signed(negative: bool, magnitude: u64) -> f64
     ensures { λ r. ⌜ r ≡ Ieee.ofBits binary64 (cond negative (2 ^ 63) 0 + magnitude) ⌝ }
 {
     if negative {
-        f64::from_bits(0x8000_0000_0000_0000 + magnitude)
+        f64::from_bits(SIGN + magnitude)
     } else {
         f64::from_bits(magnitude)
     }
@@ -165,20 +180,20 @@ fn signed(negative: bool, magnitude: u64) -> f64
 
 // m / 4 * 2^k units of 2^-1074, rounded to a whole number times 2^k.
 fn pack(negative: bool, m: u64, k: u64) -> f64
-    requires { ⌜ m < 2 ^ 55 ⌝ ∗ ⌜ k < 3200 ⌝ ∗ ⌜ (0 < k → 2 ^ 54 ≤ m) ⌝ }
+    requires { ⌜ m < 2 ^ 55 ⌝ ∗ ⌜ k < keptExponents ⌝ ∗ ⌜ (0 < k → 2 ^ 54 ≤ m) ⌝ }
     ensures { λ r. ⌜ r ≡ Ieee.units binary64 negative (closest m 4) k ⌝ }
 {
-    let magnitude = (k << 52) + quarter(m);
-    if magnitude < 0x7ff0_0000_0000_0000 {
+    let magnitude = (k << FRACTION_DIGITS) + quarter(m);
+    if magnitude < INFINITY {
         signed(negative, magnitude)
     } else {
-        signed(negative, 0x7ff0_0000_0000_0000)
+        signed(negative, INFINITY)
     }
 }
 
 // v * 2^e, in units of 2^-2148, rounded.
 fn rounded(negative: bool, v: Pair, e: u64) -> f64
-    requires { ⌜ e < 4096 ⌝ }
+    requires { ⌜ e < exponents ⌝ }
     ensures { λ r. ⌜ r ≡ Ieee.round binary64 negative (val v * 2 ^ e) (2 ^ 2148) ⌝ }
 {
     let n = shorten(v, e);
@@ -194,7 +209,7 @@ fn both(s: bool, t: bool) -> bool
 
 // The sum of two terms with their signs, rounded.
 fn total(s: bool, t: bool, w: Terms) -> f64
-    requires { ⌜ val (w .a) < 2 ^ 127 ⌝ ∗ ⌜ val (w .b) < 2 ^ 127 ⌝ ∗ ⌜ w .e < 4096 ⌝ }
+    requires { ⌜ val (w .a) < 2 ^ 127 ⌝ ∗ ⌜ val (w .b) < 2 ^ 127 ⌝ ∗ ⌜ w .e < exponents ⌝ }
     ensures { λ r. ⌜ r ≡ Ieee.sum binary64 s (val (w .a) * 2 ^ w .e) t (val (w .b) * 2 ^ w .e) (2 ^ 2148) ⌝ }
 {
     let a = w.a;
@@ -234,7 +249,7 @@ pub fn mul_add(x: f64, a: f64, b: f64) -> f64
                 let v = decode(a);
                 let w = decode(b);
                 let p = pair::product(u.m, v.m);
-                let terms = align(p, exponent(u, v), w.m, w.j + 1074);
+                let terms = align(p, exponent(u, v), w.m, w.j + LOWEST);
                 total(u.negative != v.negative, w.negative, terms)
             } else {
                 b

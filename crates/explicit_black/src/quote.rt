@@ -8,6 +8,7 @@ use arithmetic::basic::abs;
 use arithmetic::basic::is_finite;
 use arithmetic::basic::max;
 use arithmetic::exp::exp;
+use arithmetic::format::INFINITY;
 use arithmetic::sqrt::sqrt;
 use bs_option_price::negative_abs_log_moneyness;
 use special_function::constants::MIN_POSITIVE;
@@ -25,9 +26,6 @@ ghost use Rattle.explicit_black.specs.Quote.{impliedNormalisedVolatility
 ghost use Rattle.explicit_black.specs.Replies.{replied, solved, decided, Within, RepliesTo};
 
 const SQRT_2: f64 = 1.4142135623730951;
-
-// The bits of infinity.
-const INFINITY: u64 = 0x7ff0_0000_0000_0000;
 
 // No quote makes more evaluations.
 const MAX_EVALUATIONS: u64 = 2263;
@@ -177,7 +175,8 @@ pub fn implied_black_volatility_normalised(log_moneyness: f64, normalised_price:
     }
     // as at time 1
     let allowed = Allowance::new(MAX_EVALUATIONS);
-    normalised_outcome(log_moneyness, normalised_price, allowed).reply(MAX_EVALUATIONS, 1.0, 1.0)
+    let solved = normalised_outcome(log_moneyness, normalised_price, allowed);
+    solved.reply(MAX_EVALUATIONS, 1.0, 1.0)
 }
 
 fn are_above_zero(forward: f64, strike: f64) -> bool
@@ -348,9 +347,6 @@ pub fn implied_black_volatility_input(
     ensures { λ r. ⌜ replied r ≡ impliedBlackVolatilityInput side price forward strike time ⌝ }
 {
     let allowed = Allowance::new(MAX_EVALUATIONS);
-    input_outcome(side, price, forward, strike, time, allowed).reply(
-        MAX_EVALUATIONS,
-        time,
-        sqrt(time),
-    )
+    let solved = input_outcome(side, price, forward, strike, time, allowed);
+    solved.reply(MAX_EVALUATIONS, time, sqrt(time))
 }

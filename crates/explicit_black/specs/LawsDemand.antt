@@ -22,7 +22,7 @@ use Rattle.arithmetic.specs.Laws.Sums.{sub-times, sub-finite}
 use Rattle.arithmetic.specs.Laws.Identities.{mul-swap}
 use Rattle.arithmetic.specs.Laws.Extremes.{times-zero}
 use Rattle.arithmetic.specs.Laws.Halves.{Ordinary, plus, num-above}
-use Rattle.arithmetic.specs.Laws.SqrtBounds.{roots-ordinary, roots-times}
+use Rattle.arithmetic.specs.Laws.SqrtBounds.{roots-times}
 use Rattle.bs_option_price.specs.BsOptionPrice.{negativeAbsLogMoneyness}
 use Rattle.bs_option_price.specs.LawsMoneyness.{Pair, log-times, log-swap}
 use Rattle.inverse_gaussian.specs.Counted.{Counted, atOnce}
@@ -137,17 +137,10 @@ module _ (n : ℕ) (p f k t p' f' k' t' : Float) (z : Bool) (o : Plain p) (o' : 
         go false = bound-times k f _ _ f' k' _ _ (h .strike) (h .forward) (h' .forward) (h' .strike) hk hf r x
 
 -- ---- a price that is a zero, of either sign
-zero-behind : (call : Bool) (p f k t : Float) → T (fits binary64 p) → T (finite p) → num p ≡ 0 → Pair f k → behind call p f k t ≡ behind call (zeroOf false) f k t
-zero-behind call p f k t F b e h =
+zero-behind : (call : Bool) (p f k t : Float) → T (fits binary64 p) → T (finite p) → num p ≡ 0 → behind call p f k t ≡ behind call (zeroOf false) f k t
+zero-behind call p f k t F b e =
     let (s, i) = zeros p F b e in
-    ap (λ (q : Float). behind call q f k t) i ∙ go call s
-  where
-    r : Ordinary (sqrt f ⊗ sqrt k)
-    r = roots-ordinary f k (h .forward) (h .strike)
-
-    go : (call s : Bool) → behind call (zeroOf s) f k t ≡ behind call (zeroOf false) f k t
-    go true s = zero-priced s (f ⊖ k) f (sqrt f ⊗ sqrt k) _ t (difference-finite f k (h .forward) (h .strike)) (h .forward) r
-    go false s = zero-priced s (k ⊖ f) k (sqrt f ⊗ sqrt k) _ t (difference-finite k f (h .strike) (h .forward)) (h .strike) r
+    ap (λ (q : Float). behind call q f k t) i ∙ zero-priced s (cond call (f ⊖ k) (k ⊖ f)) (cond call f k) (sqrt f ⊗ sqrt k) (negativeAbsLogMoneyness f k) t
 
 -- ---- from `Exactly` to `Times`
 up-value : (n nx dx ny dy : ℕ) → ny * dx * 1 ≡ nx * dy * 4 ^ n → ny * dx ≡ nx * 2 ^ (n + n) * dy
@@ -205,15 +198,15 @@ zero-times : (k : ℕ) → Times k (zeroOf false) (zeroOf false)
 zero-times k = subst (λ (z : Float). Times k z z) nought-is (times-zero k)
 
 -- an outcome that scaled prices with clear signs share, all scaled prices share that are not negative
-any-price : (K : ℕ) (a b : Bool) (f k t f' k' t' : Float) → Pair f k → Pair f' k' → ((p p' : Float) → Plain p → Plain p' → Times K p p' → behind a p' f' k' t' ≡ behind b p f k t)
+any-price : (K : ℕ) (a b : Bool) (f k t f' k' t' : Float) → ((p p' : Float) → Plain p → Plain p' → Times K p p' → behind a p' f' k' t' ≡ behind b p f k t)
     → (p p' : Float) → Quoted p f k → Quoted p' f' k' → Related K p p' → behind a p' f' k' t' ≡ behind b p f k t
-any-price K a b f k t f' k' t' h h' G p p' o o' q = go q
+any-price K a b f k t f' k' t' G p p' o o' q = go q
   where
     both : num p ≡ 0 → num p' ≡ 0 → behind a p' f' k' t' ≡ behind b p f k t
     both e e' =
-        zero-behind a p' f' k' t' (o' .held) (o' .bounded) e' h'
+        zero-behind a p' f' k' t' (o' .held) (o' .bounded) e'
         ∙ G (zeroOf false) (zeroOf false) zero-plain zero-plain (zero-times K)
-        ∙ sym (zero-behind b p f k t (o .held) (o .bounded) e h)
+        ∙ sym (zero-behind b p f k t (o .held) (o .bounded) e)
 
     go : Related K p p' → behind a p' f' k' t' ≡ behind b p f k t
     go (vanish e e') = both e e'
@@ -228,7 +221,7 @@ module _ (p f k t p' f' k' t' : Float) (o : Quoted p f k) (o' : Quoted p' f' k')
       rw (
         opened side p' f' k' t' z (o' .bounded) (o' .pair) w',
         opened side p f k t z (o .bounded) (o .pair) w,
-        any-price (n + n) (eqb side 0) (eqb side 0) f k t f' k' t' (o .pair) (o' .pair)
+        any-price (n + n) (eqb side 0) (eqb side 0) f k t f' k' t'
             (λ q q' c c' g. same-behind n q f k t q' f' k' t' z c c' (o .pair) (o' .pair) w w' g (ordinary-times (n + n) f f' (o .pair .forward) hf) (ordinary-times (n + n) k k' (o .pair .strike) hk) (eqb side 0))
             p p' o o' hp,
       )
@@ -241,7 +234,7 @@ module _ (p f k t p' f' k' t' : Float) (o : Quoted p f k) (o' : Quoted p' f' k')
     where
       go : (call : Bool) → behind (not call) p' f' k' t' ≡ behind call p f k t
       go call =
-          any-price (n + n) (not call) call f k t f' k' t' (o .pair) (o' .pair)
+          any-price (n + n) (not call) call f k t f' k' t'
           (λ q q' c c' g. other-behind n q f k t q' f' k' t' z c c' (o .pair) (o' .pair) w w' g (ordinary-times (n + n) f k' (o .pair .forward) hf) (ordinary-times (n + n) k f' (o .pair .strike) hk) call)
           p p' o o' hp
 

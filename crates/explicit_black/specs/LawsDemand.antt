@@ -31,6 +31,7 @@ use Rattle.explicit_black.specs.Demand.{Exactly, Fair, Timed, compared}
 use Rattle.explicit_black.specs.LawsSteps.{Plain, priced-times}
 use Rattle.explicit_black.specs.LawsQuote.{compared-input}
 use Rattle.explicit_black.specs.LawsZeroPrice.{zeroOf, nought-is, is-false, zeros, zero-priced}
+use Rattle.explicit_black.specs.LawsPowers.{fair}
 
 -- ---- times: both zero, or both finite and above zero
 record Tested (t : Float) (z : Bool) : Type 0 where
@@ -293,30 +294,12 @@ module _ (n : ℤ) (p f k t p' f' k' t' : ℕ) (h : Fair (bits p) (bits f) (bits
 
 -- ---- document 01's call 0 1 100 120 1 and put 1 4 480 400 1 agree: the hypotheses are met
 fair-call : Fair (bits 0x3FF0_0000_0000_0000) (bits 0x4059_0000_0000_0000) (bits 0x405E_0000_0000_0000)
-unfolding ofBits le lt eq
-fair-call = record {
-  price-finite = tt;
-  price-not-negative = tt;
-  forward-finite = tt;
-  forward-normal = tt;
-  strike-finite = tt;
-  strike-normal = tt;
-  forward-not-over = lit≤ tt;
-  strike-not-over = lit≤ tt;
-}
+unfolding ofBits le
+fair-call = fair _ _ _ tt tt tt tt tt tt (lit≤ tt) (lit≤ tt)
 
 fair-put : Fair (bits 0x4010_0000_0000_0000) (bits 0x407E_0000_0000_0000) (bits 0x4079_0000_0000_0000)
-unfolding ofBits le lt eq
-fair-put = record {
-  price-finite = tt;
-  price-not-negative = tt;
-  forward-finite = tt;
-  forward-normal = tt;
-  strike-finite = tt;
-  strike-normal = tt;
-  forward-not-over = lit≤ tt;
-  strike-not-over = lit≤ tt;
-}
+unfolding ofBits le
+fair-put = fair _ _ _ tt tt tt tt tt tt (lit≤ tt) (lit≤ tt)
 
 four-times : (x y : ℕ) → T (finite (bits x)) → T (finite (bits y)) → num (bits y) * den (bits x) * 1 ≡ num (bits x) * den (bits y) * 4 → minus? (bits y) ≡ minus? (bits x) → Exactly (pos 1) (bits x) (bits y)
 four-times x y p q e s = record { finite-x = p; finite-y = q; fraction = e; signs = inr s }

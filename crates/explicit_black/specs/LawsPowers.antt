@@ -1,0 +1,145 @@
+-- Why demand 3 says 4 ^ n: where figures are doubled the product of their roots is not, and replies differ, in total volatility or in refusal. What
+-- the definitions compute, for calls that meet every other term of demand 3. Assumes nothing.
+use mathlib.Core.Path.{_≡_, refl, sym, ap, _∙_, subst}
+use Prim.Native.Nat.{ℕ, _*_}
+use native.Mathlib.Omega.{arith}
+use mathlib.Core.Bool.{false}
+use lib.IntN.{ℤ, pos, negsuc}
+use lib.Dec.{T, lit≤}
+use lib.Ieee.{Float, binary64, round, add, sub, mul, div, neg, lt, le, eq, isNan, ofBits}
+use lib.Ieee.Scale.{finite}
+use lib.Ieee.Positive.{num, den}
+use Rattle.arithmetic.specs.Operations.{bits, nought, half, one, two, minPositive, infinity}
+use Rattle.arithmetic.specs.Basic.{minus?, abs, max, min}
+use Rattle.arithmetic.specs.Sqrt.{sqrt}
+use Rattle.arithmetic.specs.Exp.{exp}
+use Rattle.arithmetic.specs.Ln.{ln, ln1p}
+use Rattle.arithmetic.specs.Laws.Times.{Times}
+use Rattle.special_function.specs.Erfinv.{erfinv}
+use Rattle.special_function.specs.NormalDistribution.{inverseNormCdfmHalfForMidrangeProbabilities}
+use Rattle.special_function.specs.Polynomial.{nested}
+use Rattle.bs_option_price.specs.BsOptionPrice.{negativeAbsLogMoneyness}
+use Rattle.inverse_gaussian.specs.Counted.{Counted, atOnce}
+use Rattle.explicit_black.specs.Quote.{Outcome, total, refused, impliedNormalisedVolatilityAtm, atTheMoney, normalisedOutcome, firstRefusal, valued, priced, inputOutcome, impliedBlackVolatilityInput}
+use Rattle.explicit_black.specs.Demand.{fourUp, fourDown, NotOver, Fair, compared}
+
+-- a call at time 1, by its price, forward and strike
+abbrev call : Float → Float → Float → Counted Outcome
+call price forward strike = compared (impliedBlackVolatilityInput 0 price forward strike one)
+
+-- the figures of the examples
+abbrev belowSix : Float
+belowSix = bits 0x4017_FFFF_FFFF_FFFF
+
+abbrev six : Float
+six = bits 0x4018_0000_0000_0000
+
+abbrev nineteen : Float
+nineteen = bits 0x4033_0000_0000_0000
+
+abbrev belowTwelve : Float
+belowTwelve = bits 0x4027_FFFF_FFFF_FFFF
+
+abbrev twelve : Float
+twelve = bits 0x4028_0000_0000_0000
+
+abbrev thirtyEight : Float
+thirtyEight = bits 0x4043_0000_0000_0000
+
+-- ---- 4 ^ n is kept: at the money, with a price of half the forward
+
+-- the figures 1 / 2, 1 and 1, each times 4 ^ n
+abbrev scaledCall : ℤ → Counted Outcome
+scaledCall n =
+    let figure = round binary64 false (fourUp n) (fourDown n) in
+    call (round binary64 false (fourUp n) (2 * fourDown n)) figure figure
+
+-- 1.3489795003921636
+abbrev kept : Float
+kept = bits 0x3FF5_956B_8752_8A4A
+
+pub fours-kept : (scaledCall (pos 0) ≡ atOnce (total kept)) × (scaledCall (pos 1) ≡ atOnce (total kept)) × (scaledCall (negsuc 0) ≡ atOnce (total kept))
+unfolding round sqrt exp ln1p max min abs erfinv inverseNormCdfmHalfForMidrangeProbabilities nested negativeAbsLogMoneyness impliedNormalisedVolatilityAtm atTheMoney normalisedOutcome firstRefusal valued priced inputOutcome impliedBlackVolatilityInput add sub mul div neg lt le eq isNan ofBits
+fours-kept = (refl, refl, refl)
+
+-- ---- 2 is not
+
+-- Two calls that meet demand 3's terms, but that the second's figures are exactly 2 times the first's. They are answered at once, and otherwise.
+pub record Doubled (p f k p' f' k' : Float) (r r' : Outcome) : Type 0 where
+  pub first : Fair p f k
+  pub second : Fair p' f' k'
+  pub price : Times 1 p p'
+  pub forward : Times 1 f f'
+  pub strike : Times 1 k k'
+  pub first-reply : call p f k ≡ atOnce r
+  pub second-reply : call p' f' k' ≡ atOnce r'
+  pub differ : call p' f' k' ≡ call p f k → ⊥
+
+pub fair : (p f k : Float) → T (finite p) → T (le nought p) → T (finite f) → T (le minPositive f) → T (finite k) → T (le minPositive k) → NotOver f k → NotOver k f
+    → Fair p f k
+fair p f k a b c d e g h i = record {
+  price-finite = a;
+  price-not-negative = b;
+  forward-finite = c;
+  forward-normal = d;
+  strike-finite = e;
+  strike-normal = g;
+  forward-not-over = h;
+  strike-not-over = i;
+}
+
+twice : (x y : Float) → T (finite x) → T (finite y) → minus? y ≡ minus? x → num y * den x ≡ num x * 2 * den y → Times 1 x y
+twice x y a b c d = record { finite-l = a; finite-r = b; sign = c; value = d }
+
+apart : (c d : Counted Outcome) (r s : Outcome) → c ≡ atOnce r → d ≡ atOnce s → (r ≡ s → ⊥) → d ≡ c → ⊥
+apart c d r s h g n e = n (ap (λ (c : Counted Outcome). c .result) (sym h ∙ sym e ∙ g))
+
+-- 1.3489795003921632, two units in the last place below the other
+abbrev notKept : Float
+notKept = bits 0x3FF5_956B_8752_8A48
+
+one-one : call half one one ≡ atOnce (total kept)
+unfolding sqrt exp ln1p max min abs erfinv inverseNormCdfmHalfForMidrangeProbabilities nested negativeAbsLogMoneyness impliedNormalisedVolatilityAtm atTheMoney normalisedOutcome firstRefusal valued priced inputOutcome impliedBlackVolatilityInput add sub mul div neg lt le eq isNan ofBits
+one-one = refl
+
+two-two : call one two two ≡ atOnce (total notKept)
+unfolding sqrt exp ln1p max min abs erfinv inverseNormCdfmHalfForMidrangeProbabilities nested negativeAbsLogMoneyness impliedNormalisedVolatilityAtm atTheMoney normalisedOutcome firstRefusal valued priced inputOutcome impliedBlackVolatilityInput add sub mul div neg lt le eq isNan ofBits
+two-two = refl
+
+pub totals-differ : Doubled half one one one two two (total kept) (total notKept)
+unfolding ofBits le
+totals-differ = record {
+  first = fair half one one tt tt tt tt tt tt (lit≤ tt) (lit≤ tt);
+  second = fair one two two tt tt tt tt tt tt (lit≤ tt) (lit≤ tt);
+  price = twice half one tt tt refl refl;
+  forward = twice one two tt tt refl refl;
+  strike = twice one two tt tt refl refl;
+  first-reply = one-one;
+  second-reply = two-two;
+  differ = apart _ _ (total kept) (total notKept) one-one two-two (λ e. other (cc));
+}
+  where
+    other : kept ≡ notKept → ⊥
+    other e = subst (λ (v : Float). T (le kept v)) e tt
+
+-- a price of b_max is answered with infinity; doubled, its time value is above b_max
+at-six : call belowSix six nineteen ≡ atOnce (total infinity)
+unfolding sqrt exp ln max min abs negativeAbsLogMoneyness normalisedOutcome firstRefusal valued priced inputOutcome impliedBlackVolatilityInput add sub mul div neg lt le eq isNan ofBits
+at-six = refl
+
+at-twelve : call belowTwelve twelve thirtyEight ≡ atOnce (refused 8)
+unfolding sqrt exp ln max min abs negativeAbsLogMoneyness normalisedOutcome firstRefusal valued priced inputOutcome impliedBlackVolatilityInput add sub mul div neg lt le eq isNan ofBits
+at-twelve = refl
+
+pub refusals-differ : Doubled belowSix six nineteen belowTwelve twelve thirtyEight (total infinity) (refused 8)
+unfolding ofBits le
+refusals-differ = record {
+  first = fair belowSix six nineteen tt tt tt tt tt tt (lit≤ tt) (lit≤ tt);
+  second = fair belowTwelve twelve thirtyEight tt tt tt tt tt tt (lit≤ tt) (lit≤ tt);
+  price = twice belowSix belowTwelve tt tt refl refl;
+  forward = twice six twelve tt tt refl refl;
+  strike = twice nineteen thirtyEight tt tt refl refl;
+  first-reply = at-six;
+  second-reply = at-twelve;
+  differ = apart _ _ (total infinity) (refused 8) at-six at-twelve (λ e. let z : _≡_ {A = ℕ} 0 1 = cc in omega arith);
+}

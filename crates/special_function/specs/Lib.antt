@@ -5,3 +5,4 @@ pub mod ErrorFunction
 pub mod NormalDistribution
 pub mod Erfinv
 pub mod Laws
+pub mod Examples

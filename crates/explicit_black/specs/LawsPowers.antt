@@ -24,7 +24,10 @@ use Rattle.explicit_black.specs.Quote.{Outcome, total, refused, impliedN
 use Rattle.explicit_black.specs.Demand.{fourUp, fourDown, NotOver, Fair, compared}
 
 -- a call at time 1, by its price, forward and strike
-abbrev call : Float → Float → Float → Counted Outcome
+unfoldable pub call : Float → Float → Float → Counted Outcome
+unfolding impliedBlackVolatilityInput inputOutcome firstRefusal priced valued normalisedOutcome atTheMoney impliedNormalisedVolatilityAtm
+    negativeAbsLogMoneyness erfinv inverseNormCdfmHalfForMidrangeProbabilities nested sqrt exp ln ln1p max min abs
+    add sub mul div neg lt le eq isNan ofBits
 call price forward strike = compared (impliedBlackVolatilityInput 0 price forward strike one)
 
 -- the figures of the examples
@@ -59,12 +62,12 @@ abbrev kept : Float
 kept = bits 0x3FF5_956B_8752_8A4A
 
 pub fours-kept : (scaledCall (pos 0) ≡ atOnce (total kept)) × (scaledCall (pos 1) ≡ atOnce (total kept)) × (scaledCall (negsuc 0) ≡ atOnce (total kept))
-unfolding round sqrt exp ln1p max min abs erfinv inverseNormCdfmHalfForMidrangeProbabilities nested negativeAbsLogMoneyness impliedNormalisedVolatilityAtm atTheMoney normalisedOutcome firstRefusal valued priced inputOutcome impliedBlackVolatilityInput add sub mul div neg lt le eq isNan ofBits
+unfolding call round ofBits
 fours-kept = (refl, refl, refl)
 
 -- ---- 2 is not
 
--- Two calls that meet demand 3's terms, but that the second's figures are exactly 2 times the first's. They are answered at once, and otherwise.
+-- Two calls that meet demand 3's terms, but that the second's figures are exactly 2 times the first's. Both are answered at once, and not alike.
 pub record Doubled (p f k p' f' k' : Float) (r r' : Outcome) : Type 0 where
   pub first : Fair p f k
   pub second : Fair p' f' k'
@@ -75,8 +78,9 @@ pub record Doubled (p f k p' f' k' : Float) (r r' : Outcome) : Type 0 where
   pub second-reply : call p' f' k' ≡ atOnce r'
   pub differ : call p' f' k' ≡ call p f k → ⊥
 
-pub fair : (p f k : Float) → T (finite p) → T (le nought p) → T (finite f) → T (le minPositive f) → T (finite k) → T (le minPositive k) → NotOver f k → NotOver k f
-    → Fair p f k
+-- the terms of demand 3, each with its proof
+pub fair : (p f k : Float) → T (finite p) → T (le nought p) → T (finite f) → T (le minPositive f) → T (finite k) → T (le minPositive k)
+    → NotOver f k → NotOver k f → Fair p f k
 fair p f k a b c d e g h i = record {
   price-finite = a;
   price-not-negative = b;
@@ -99,11 +103,11 @@ abbrev notKept : Float
 notKept = bits 0x3FF5_956B_8752_8A48
 
 one-one : call half one one ≡ atOnce (total kept)
-unfolding sqrt exp ln1p max min abs erfinv inverseNormCdfmHalfForMidrangeProbabilities nested negativeAbsLogMoneyness impliedNormalisedVolatilityAtm atTheMoney normalisedOutcome firstRefusal valued priced inputOutcome impliedBlackVolatilityInput add sub mul div neg lt le eq isNan ofBits
+unfolding call ofBits
 one-one = refl
 
 two-two : call one two two ≡ atOnce (total notKept)
-unfolding sqrt exp ln1p max min abs erfinv inverseNormCdfmHalfForMidrangeProbabilities nested negativeAbsLogMoneyness impliedNormalisedVolatilityAtm atTheMoney normalisedOutcome firstRefusal valued priced inputOutcome impliedBlackVolatilityInput add sub mul div neg lt le eq isNan ofBits
+unfolding call ofBits
 two-two = refl
 
 pub totals-differ : Doubled half one one one two two (total kept) (total notKept)
@@ -124,11 +128,11 @@ totals-differ = record {
 
 -- a price of b_max is answered with infinity; doubled, its time value is above b_max
 at-six : call belowSix six nineteen ≡ atOnce (total infinity)
-unfolding sqrt exp ln max min abs negativeAbsLogMoneyness normalisedOutcome firstRefusal valued priced inputOutcome impliedBlackVolatilityInput add sub mul div neg lt le eq isNan ofBits
+unfolding call ofBits
 at-six = refl
 
 at-twelve : call belowTwelve twelve thirtyEight ≡ atOnce (refused 8)
-unfolding sqrt exp ln max min abs negativeAbsLogMoneyness normalisedOutcome firstRefusal valued priced inputOutcome impliedBlackVolatilityInput add sub mul div neg lt le eq isNan ofBits
+unfolding call ofBits
 at-twelve = refl
 
 pub refusals-differ : Doubled belowSix six nineteen belowTwelve twelve thirtyEight (total infinity) (refused 8)

@@ -83,11 +83,12 @@ pub bound-above : (s : Bool) (b : Float) → Ordinary b → le b (zeroOf s) ≡ 
 unfolding le
 bound-above s b o =
     let z = zeroOf s in
-    let e : 0 * den b ≡ 0 = zero-mul (den b) in
-    let l : lt b z ≡ false = lt-is b z (o .bounded) tt ∙ ap (λ (t : Bool). below t (num b * 1) s (0 * den b)) (plus b o) ∙ go s in
-    let q : eq b z ≡ false =
-    eq-is b z (o .bounded) tt
-    ∙ ap (λ (t : Bool). t && (Bool·beq (minus? b) s || eqb (num b * 1) 0)) (is-false (eqb (num b * 1) (0 * den b)) (λ t. above-zero (num b * 1) (0 * den b) (subst (λ (n : ℕ). 0 < n) (sym (mul-one (num b))) (num-above b o)) e (eqb→eq (num b * 1) (0 * den b) t))) in
+    let n = num b * 1 in
+    let m = 0 * den b in
+    let up : 0 < n = subst (λ (k : ℕ). 0 < k) (sym (mul-one (num b))) (num-above b o) in
+    let l : lt b z ≡ false = lt-is b z (o .bounded) tt ∙ ap (λ (t : Bool). below t n s m) (plus b o) ∙ go s in
+    let apart : eqb n m ≡ false = is-false (eqb n m) (λ t. above-zero n m up (zero-mul (den b)) (eqb→eq n m t)) in
+    let q : eq b z ≡ false = eq-is b z (o .bounded) tt ∙ ap (λ (t : Bool). t && (Bool·beq (minus? b) s || eqb n 0)) apart in
     rw (l, q)
   where
     go : (s : Bool) → below false (num b * 1) s (0 * den b) ≡ false
@@ -127,8 +128,9 @@ nil-of v s a c C e h = record {
 
 round-nil : (s : Bool) (a c : ℕ) → 0 < c → a ≡ 0 → Nil (round binary64 s a c)
 round-nil s a c C e =
+    let none : a * 2 ^ low binary64 ≡ 0 * c = ap (λ (z : ℕ). z * 2 ^ low binary64) e ∙ zero-mul (2 ^ low binary64) ∙ sym (zero-mul c) in
     nil-of (round binary64 s a c) s a c C e
-    (round-exact binary64 s a c 0 0 C (pow-pos (prec binary64)) (pow-pos (low binary64 + suc (emax binary64))) (ap (λ (z : ℕ). z * 2 ^ low binary64) e ∙ zero-mul (2 ^ low binary64) ∙ sym (zero-mul c)))
+    (round-exact binary64 s a c 0 0 C (pow-pos (prec binary64)) (pow-pos (low binary64 + suc (emax binary64))) none)
 
 more : (a b : ℕ) → a ≡ 0 → 0 < b → a < b
 more a b e h = omega arith
@@ -148,15 +150,21 @@ nil-low : (v : Float) → Nil v → le v minPositive ≡ true
 unfolding le ofBits
 nil-low v n = or-left (lt v minPositive) (eq v minPositive) (lt-is v minPositive (n .some) tt ∙ go (minus? v))
   where
-    tall : 0 < num minPositive * den v
+    a : ℕ
+    a = num v * den minPositive
+
+    b : ℕ
+    b = num minPositive * den v
+
+    none : a ≡ 0
+    none = ap (λ (z : ℕ). z * den minPositive) (n .none) ∙ zero-mul (den minPositive)
+
+    tall : 0 < b
     tall = mul-pos (pow-pos 0) (den-pos v)
 
-    go : (s : Bool) → below s (num v * den minPositive) false (num minPositive * den v) ≡ true
-    go false =
-        is-true (ltb (num v * den minPositive) (num minPositive * den v))
-        (lt→ltb (num v * den minPositive) (num minPositive * den v) (more (num v * den minPositive) (num minPositive * den v) (ap (λ (z : ℕ). z * den minPositive) (n .none) ∙ zero-mul (den minPositive)) tall))
-    go true =
-        is-true (ltb 0 (num v * den minPositive + num minPositive * den v)) (lt→ltb 0 (num v * den minPositive + num minPositive * den v) (more' (num v * den minPositive) (num minPositive * den v) tall))
+    go : (s : Bool) → below s a false b ≡ true
+    go false = is-true (ltb a b) (lt→ltb a b (more a b none tall))
+    go true = is-true (ltb 0 (a + b)) (lt→ltb 0 (a + b) (more' a b tall))
 
 nil-not-below : (v : Float) → Nil v → le nought v ≡ true
 unfolding le ofBits
@@ -179,13 +187,15 @@ nil-over s x (fin t zero d) = refl
 nil-over s x (fin t (suc n) d) = rw (eqb·suc-zero n) (nil-same x _ _ (quotient s) (quotient false))
   where
     quotient : (s : Bool) → Nil (round binary64 (unlike s t) (0 * down d) (suc n * up d * 1))
-    quotient s = round-nil (unlike s t) (0 * down d) (suc n * up d * 1) (mul-pos (mul-pos (zero-lt-suc n) (up-pos d)) (pow-pos 0)) (zero-mul (down d))
+    quotient s =
+        round-nil (unlike s t) (0 * down d) (suc n * up d * 1) (mul-pos (mul-pos (zero-lt-suc n) (up-pos d)) (pow-pos 0)) (zero-mul (down d))
 
 pub zero-priced : (s : Bool) (d b r x t : Float) → priced (zeroOf s) d b r x t ≡ priced (zeroOf false) d b r x t
 unfolding priced
 zero-priced s d b r x t = rw (eq-zero s (max d nought), le-zero s b, eq-zero s b, go (lt nought d) (sub-zero s d))
   where
-    go : (u : Bool) → (T u → zeroOf s ⊖ d ≡ zeroOf false ⊖ d) → valued x (cond u (zeroOf s ⊖ d) (zeroOf s) ⊘ r) ≡ valued x (cond u (zeroOf false ⊖ d) (zeroOf false) ⊘ r)
+    go : (u : Bool) → (T u → zeroOf s ⊖ d ≡ zeroOf false ⊖ d)
+        → valued x (cond u (zeroOf s ⊖ d) (zeroOf s) ⊘ r) ≡ valued x (cond u (zeroOf false ⊖ d) (zeroOf false) ⊘ r)
     go true e = ap (λ (z : Float). valued x (z ⊘ r)) (e tt)
     go false e = nil-over s x r
 
@@ -193,10 +203,13 @@ zero-priced s d b r x t = rw (eq-zero s (max d nought), le-zero s b, eq-zero s b
 abbrev pub minusZero : Float
 minusZero = bits 0x8000_0000_0000_0000
 
-pub input-of-minus-zero : (side : ℕ) (forward strike time : Float) → impliedBlackVolatilityInput side minusZero forward strike time ≡ impliedBlackVolatilityInput side nought forward strike time
+pub input-of-minus-zero : (side : ℕ) (forward strike time : Float)
+    → impliedBlackVolatilityInput side minusZero forward strike time ≡ impliedBlackVolatilityInput side nought forward strike time
 unfolding impliedBlackVolatilityInput inputOutcome firstRefusal ofBits
-input-of-minus-zero side f k t = rw (zero-priced true (intrinsicValue side f k) (priceBound side f k) (sqrt f ⊗ sqrt k) (negativeAbsLogMoneyness f k) t)
+input-of-minus-zero side f k t =
+    rw (zero-priced true (intrinsicValue side f k) (priceBound side f k) (sqrt f ⊗ sqrt k) (negativeAbsLogMoneyness f k) t)
 
-pub normalised-of-minus-zero : (logMoneyness : Float) → impliedBlackVolatilityNormalised logMoneyness minusZero ≡ impliedBlackVolatilityNormalised logMoneyness nought
+pub normalised-of-minus-zero : (logMoneyness : Float)
+    → impliedBlackVolatilityNormalised logMoneyness minusZero ≡ impliedBlackVolatilityNormalised logMoneyness nought
 unfolding impliedBlackVolatilityNormalised normalisedOutcome le ofBits
 normalised-of-minus-zero x = refl

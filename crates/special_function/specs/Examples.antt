@@ -31,5 +31,6 @@ pub ends : (erfcCody xbig ≡ nought)
     × (erfcCody (bits 0x403A_8B02_0C49_BA5D) ≡ bits 0x0010_38A0_55F6_D6BA)
     × (erfcxCody xneg ≡ bits 0x7FEF_FFFF_FFFF_5840)
     × (erfcxCody (bits 0xC03A_A0F4_D2E0_63B6) ≡ maxFinite)
-unfolding erfcCody erfcxCody erfcAboveThreshold erfcxCodyAboveThreshold smoothenedExponentialOfNegativeSquare smoothenedExponentialOfPositiveSquare ab cd pq evaluate exp trunc abs add sub mul div neg lt le ofBits
+unfolding erfcCody erfcxCody erfcAboveThreshold erfcxCodyAboveThreshold smoothenedExponentialOfNegativeSquare smoothenedExponentialOfPositiveSquare
+    ab cd pq evaluate exp trunc abs add sub mul div neg lt le ofBits
 ends = (refl, refl, refl, refl)

@@ -45,7 +45,8 @@ returns-5 : tie.Need-returns-5
 returns-5 c =
     let a = c .before .before .before .before in
     sym (subst (λ (y : Float). sqrt y ≡ y) (back a)
-    (of-itself (toBits binary64 (a .args .x)) (c .before .if4 .left) (omega (arith, c .if5 .taken)) (ap isNan (back a) ∙ is-no-nan (a .args .x) (c .before .before .before .if1 .left))))
+    (of-itself (toBits binary64 (a .args .x)) (c .before .if4 .left) (omega (arith, c .if5 .taken))
+    (ap isNan (back a) ∙ is-no-nan (a .args .x) (c .before .before .before .if1 .left))))
 
 returns-6 : tie.Need-returns-6
 returns-6 c =

@@ -1,17 +1,32 @@
 -- Values of the functions that antt computes, besides the keystrokes of document 01, which stand with layer four. Assumes nothing.
-use mathlib.Core.Path.{_≡_, refl}
+use mathlib.Core.Path.{_≡_, refl, sym, subst}
+use Prim.Native.Nat.{ℕ, _^_}
 use mathlib.Core.Bool.{true, false}
 use lib.IntN.{pos, negsuc}
-use lib.Ieee.{nan, inf, fin, ofBits}
-use Rattle.arithmetic.specs.Operations.{bits, nought, one, two}
+use lib.Dec.{T, eqb}
+use lib.Ieee.{Float, nan, inf, fin, mul, ofBits}
+use Rattle.arithmetic.specs.Operations.{_⊗_, bits, nought, one, two}
 use Rattle.arithmetic.specs.Sqrt.{sqrt}
 use Rattle.arithmetic.specs.MulAdd.{mulAdd}
 use Rattle.arithmetic.specs.Exp.{highest, lowest, exp}
 use Rattle.arithmetic.specs.Ln.{ln, ln1p}
+use Rattle.arithmetic.specs.Laws.Times.{Times}
+
+abbrev four : Float
+four = bits 0x4010_0000_0000_0000
 
 pub root-of-two : sqrt two ≡ bits 0x3ff6_a09e_667f_3bcd
 unfolding sqrt ofBits
 root-of-two = refl
+
+-- the product of the roots of x and x for x = 1, 2 and 4: 4 times x has 4 times the product, and twice x has not twice the product
+pub root-products : (sqrt one ⊗ sqrt one ≡ one) × (sqrt two ⊗ sqrt two ≡ bits 0x4000_0000_0000_0001) × (sqrt four ⊗ sqrt four ≡ four)
+unfolding sqrt mul ofBits
+root-products = (refl, refl, refl)
+
+pub product-not-doubled : Times 1 (sqrt one ⊗ sqrt one) (sqrt two ⊗ sqrt two) → ⊥
+unfolding sqrt mul ofBits
+product-not-doubled h = subst (λ (n : ℕ). T (eqb n (2 ^ 52))) (sym (h .value)) tt
 
 -- specials, signs of exact zeros, a tie at the smallest value, and overflow
 pub fused-controls : (mulAdd (inf false) (fin true 0 (pos 0)) (fin false 1 (pos 0)) ≡ nan)

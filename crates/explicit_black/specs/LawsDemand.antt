@@ -22,7 +22,7 @@ use Rattle.arithmetic.specs.Laws.Sums.{sub-times, sub-finite}
 use Rattle.arithmetic.specs.Laws.Identities.{mul-swap}
 use Rattle.arithmetic.specs.Laws.Extremes.{times-zero}
 use Rattle.arithmetic.specs.Laws.Halves.{Ordinary, plus, num-above}
-use Rattle.arithmetic.specs.Laws.SqrtBounds.{roots-ordinary, roots-times}
+use Rattle.arithmetic.specs.Laws.SqrtBounds.{roots-times}
 use Rattle.bs_option_price.specs.BsOptionPrice.{negativeAbsLogMoneyness}
 use Rattle.bs_option_price.specs.LawsMoneyness.{Pair, log-times, log-swap}
 use Rattle.explicit_black.specs.Counted.{Counted, atOnce}
@@ -31,6 +31,7 @@ use Rattle.explicit_black.specs.Demand.{Exactly, Fair, Timed, compared}
 use Rattle.explicit_black.specs.LawsSteps.{Plain, priced-times}
 use Rattle.explicit_black.specs.LawsQuote.{compared-input}
 use Rattle.explicit_black.specs.LawsZeroPrice.{zeroOf, nought-is, is-false, zeros, zero-priced}
+use Rattle.explicit_black.specs.LawsPowers.{fair}
 
 -- ---- times: both zero, or both finite and above zero
 record Tested (t : Float) (z : Bool) : Type 0 where
@@ -137,17 +138,10 @@ module _ (n : ℕ) (p f k t p' f' k' t' : Float) (z : Bool) (o : Plain p) (o' : 
         go false = bound-times k f _ _ f' k' _ _ (h .strike) (h .forward) (h' .forward) (h' .strike) hk hf r x
 
 -- ---- a price that is a zero, of either sign
-zero-behind : (call : Bool) (p f k t : Float) → T (fits binary64 p) → T (finite p) → num p ≡ 0 → Pair f k → behind call p f k t ≡ behind call (zeroOf false) f k t
-zero-behind call p f k t F b e h =
+zero-behind : (call : Bool) (p f k t : Float) → T (fits binary64 p) → T (finite p) → num p ≡ 0 → behind call p f k t ≡ behind call (zeroOf false) f k t
+zero-behind call p f k t F b e =
     let (s, i) = zeros p F b e in
-    ap (λ (q : Float). behind call q f k t) i ∙ go call s
-  where
-    r : Ordinary (sqrt f ⊗ sqrt k)
-    r = roots-ordinary f k (h .forward) (h .strike)
-
-    go : (call s : Bool) → behind call (zeroOf s) f k t ≡ behind call (zeroOf false) f k t
-    go true s = zero-priced s (f ⊖ k) f (sqrt f ⊗ sqrt k) _ t (difference-finite f k (h .forward) (h .strike)) (h .forward) r
-    go false s = zero-priced s (k ⊖ f) k (sqrt f ⊗ sqrt k) _ t (difference-finite k f (h .strike) (h .forward)) (h .strike) r
+    ap (λ (q : Float). behind call q f k t) i ∙ zero-priced s (cond call (f ⊖ k) (k ⊖ f)) (cond call f k) (sqrt f ⊗ sqrt k) (negativeAbsLogMoneyness f k) t
 
 -- ---- from `Exactly` to `Times`
 up-value : (n nx dx ny dy : ℕ) → ny * dx * 1 ≡ nx * dy * 4 ^ n → ny * dx ≡ nx * 2 ^ (n + n) * dy
@@ -205,15 +199,15 @@ zero-times : (k : ℕ) → Times k (zeroOf false) (zeroOf false)
 zero-times k = subst (λ (z : Float). Times k z z) nought-is (times-zero k)
 
 -- an outcome that scaled prices with clear signs share, all scaled prices share that are not negative
-any-price : (K : ℕ) (a b : Bool) (f k t f' k' t' : Float) → Pair f k → Pair f' k' → ((p p' : Float) → Plain p → Plain p' → Times K p p' → behind a p' f' k' t' ≡ behind b p f k t)
+any-price : (K : ℕ) (a b : Bool) (f k t f' k' t' : Float) → ((p p' : Float) → Plain p → Plain p' → Times K p p' → behind a p' f' k' t' ≡ behind b p f k t)
     → (p p' : Float) → Quoted p f k → Quoted p' f' k' → Related K p p' → behind a p' f' k' t' ≡ behind b p f k t
-any-price K a b f k t f' k' t' h h' G p p' o o' q = go q
+any-price K a b f k t f' k' t' G p p' o o' q = go q
   where
     both : num p ≡ 0 → num p' ≡ 0 → behind a p' f' k' t' ≡ behind b p f k t
     both e e' =
-        zero-behind a p' f' k' t' (o' .held) (o' .bounded) e' h'
+        zero-behind a p' f' k' t' (o' .held) (o' .bounded) e'
         ∙ G (zeroOf false) (zeroOf false) zero-plain zero-plain (zero-times K)
-        ∙ sym (zero-behind b p f k t (o .held) (o .bounded) e h)
+        ∙ sym (zero-behind b p f k t (o .held) (o .bounded) e)
 
     go : Related K p p' → behind a p' f' k' t' ≡ behind b p f k t
     go (vanish e e') = both e e'
@@ -228,7 +222,7 @@ module _ (p f k t p' f' k' t' : Float) (o : Quoted p f k) (o' : Quoted p' f' k')
       rw (
         opened side p' f' k' t' z (o' .bounded) (o' .pair) w',
         opened side p f k t z (o .bounded) (o .pair) w,
-        any-price (n + n) (eqb side 0) (eqb side 0) f k t f' k' t' (o .pair) (o' .pair)
+        any-price (n + n) (eqb side 0) (eqb side 0) f k t f' k' t'
             (λ q q' c c' g. same-behind n q f k t q' f' k' t' z c c' (o .pair) (o' .pair) w w' g (ordinary-times (n + n) f f' (o .pair .forward) hf) (ordinary-times (n + n) k k' (o .pair .strike) hk) (eqb side 0))
             p p' o o' hp,
       )
@@ -241,7 +235,7 @@ module _ (p f k t p' f' k' t' : Float) (o : Quoted p f k) (o' : Quoted p' f' k')
     where
       go : (call : Bool) → behind (not call) p' f' k' t' ≡ behind call p f k t
       go call =
-          any-price (n + n) (not call) call f k t f' k' t' (o .pair) (o' .pair)
+          any-price (n + n) (not call) call f k t f' k' t'
           (λ q q' c c' g. other-behind n q f k t q' f' k' t' z c c' (o .pair) (o' .pair) w w' g (ordinary-times (n + n) f k' (o .pair .forward) hf) (ordinary-times (n + n) k f' (o .pair .strike) hk) call)
           p p' o o' hp
 
@@ -300,30 +294,12 @@ module _ (n : ℤ) (p f k t p' f' k' t' : ℕ) (h : Fair (bits p) (bits f) (bits
 
 -- ---- document 01's call 0 1 100 120 1 and put 1 4 480 400 1 agree: the hypotheses are met
 fair-call : Fair (bits 0x3FF0_0000_0000_0000) (bits 0x4059_0000_0000_0000) (bits 0x405E_0000_0000_0000)
-unfolding ofBits le lt eq
-fair-call = record {
-  price-finite = tt;
-  price-not-negative = tt;
-  forward-finite = tt;
-  forward-normal = tt;
-  strike-finite = tt;
-  strike-normal = tt;
-  forward-not-over = lit≤ tt;
-  strike-not-over = lit≤ tt;
-}
+unfolding ofBits le
+fair-call = fair _ _ _ tt tt tt tt tt tt (lit≤ tt) (lit≤ tt)
 
 fair-put : Fair (bits 0x4010_0000_0000_0000) (bits 0x407E_0000_0000_0000) (bits 0x4079_0000_0000_0000)
-unfolding ofBits le lt eq
-fair-put = record {
-  price-finite = tt;
-  price-not-negative = tt;
-  forward-finite = tt;
-  forward-normal = tt;
-  strike-finite = tt;
-  strike-normal = tt;
-  forward-not-over = lit≤ tt;
-  strike-not-over = lit≤ tt;
-}
+unfolding ofBits le
+fair-put = fair _ _ _ tt tt tt tt tt tt (lit≤ tt) (lit≤ tt)
 
 four-times : (x y : ℕ) → T (finite (bits x)) → T (finite (bits y)) → num (bits y) * den (bits x) * 1 ≡ num (bits x) * den (bits y) * 4 → minus? (bits y) ≡ minus? (bits x) → Exactly (pos 1) (bits x) (bits y)
 four-times x y p q e s = record { finite-x = p; finite-y = q; fraction = e; signs = inr s }

@@ -1,29 +1,27 @@
--- A price of -0 is answered as a price of +0. Assumes nothing.
+-- A price of -0 is answered as a price of +0 by both entries, whatever the side and the other figures are. Assumes nothing.
 use mathlib.Core.Path.{_≡_, refl, sym, ap, _∙_, subst}
 use Prim.Native.Nat.{ℕ, zero, suc, _+_, _-_, _*_, _^_, _<_}
-use native.Mathlib.Nat.{zero-mul, mul-one, one-mul, mul-pos, lt-irrefl, zero-lt-suc, eq-of-mul-eq-mul-right}
+use native.Mathlib.Nat.{zero-mul, mul-one, one-mul, add-zero, mul-pos, lt-irrefl, zero-lt-suc, eq-of-mul-eq-mul-right}
 use native.Mathlib.Omega.{arith}
 use mathlib.Core.Bool.{Bool, true, false, _&&_, _||_, Bool·beq, cond, or-true, false≢true}
 use lib.IntN.{pos, negsuc}
-use lib.Dec.{T, eqb, ltb, eqb→eq, ltb→lt, lt→ltb}
+use lib.Dec.{T, eqb, ltb, eqb→eq, ltb→lt, lt→ltb, leb·suc-zero, eqb·suc-zero}
 use lib.Pow.{pow-pos}
-use lib.Ieee.{Float, nan, inf, fin, binary64, low, prec, emax, down, unlike, fits, le, lt, eq, sub, neg, sum, round, below, ofBits}
+use lib.Ieee.{Float, nan, inf, fin, binary64, low, prec, emax, up, down, unlike, fits, le, lt, eq, sub, div, sum, round, below, level, ofBits}
 use lib.Ieee.Fits.{up-pos}
 use lib.Ieee.Bits.{is-true}
 use lib.Ieee.Exact.{HasValue, round-exact}
 use lib.Ieee.Scale.{finite}
 use lib.Ieee.Positive.{num, den, den-pos}
-use Rattle.arithmetic.specs.Operations.{_⊖_, _⊘_, nought, minPositive}
+use Rattle.arithmetic.specs.Operations.{_⊖_, _⊗_, _⊘_, bits, nought, minPositive}
 use Rattle.arithmetic.specs.Basic.{minus?, max}
-use Rattle.arithmetic.specs.Laws.Times.{has-finite, cross, neg-num, neg-den, neg-sign, neg-finite}
+use Rattle.arithmetic.specs.Sqrt.{sqrt}
+use Rattle.arithmetic.specs.Laws.Times.{has-finite, cross}
 use Rattle.arithmetic.specs.Laws.Compare.{lt-is, eq-is}
-use Rattle.arithmetic.specs.Laws.Sums.{add-is}
-use Rattle.arithmetic.specs.Laws.Products.{div-is}
-use Rattle.arithmetic.specs.Laws.Halves.{Ordinary, plus, num-above, positive-zero}
+use Rattle.arithmetic.specs.Laws.Halves.{Ordinary, plus, num-above}
+use Rattle.bs_option_price.specs.BsOptionPrice.{negativeAbsLogMoneyness}
 use Rattle.explicit_black.specs.Counted.{atOnce}
-use Rattle.explicit_black.specs.LawsTests.{priced-is}
-use Rattle.explicit_black.specs.Quote.{total, valued, priced}
-use Rattle.explicit_black.specs.LawsSteps.{lt-plus}
+use Rattle.explicit_black.specs.Quote.{total, normalisedOutcome, impliedBlackVolatilityNormalised, firstRefusal, intrinsicValue, priceBound, valued, priced, inputOutcome, impliedBlackVolatilityInput}
 
 -- the two zeros
 abbrev pub zeroOf : Bool → Float
@@ -59,6 +57,22 @@ eq-zero true (inf s) = refl
 eq-zero true (fin true n d) = rw (zero-mul (down d))
 eq-zero true (fin false n d) = rw (zero-mul (down d))
 
+-- a zero of either sign bounds the same values
+le-zero : (s : Bool) (x : Float) → le x (zeroOf s) ≡ le x (zeroOf false)
+unfolding le
+le-zero false x = refl
+le-zero true nan = refl
+le-zero true (inf s) = refl
+le-zero true (fin s n d) = rw (zero-mul (down d)) (go s (n * up d * 1))
+  where
+    twice : (b : Bool) → (b && b) ≡ (b && true)
+    twice true = refl
+    twice false = refl
+
+    go : (s : Bool) (a : ℕ) → (below s a true 0 || level s a true 0) ≡ (below s a false 0 || level s a false 0)
+    go false a = rw (leb·suc-zero a) (twice (eqb a 0))
+    go true a = rw (add-zero a, twice (eqb a 0))
+
 above-zero : (a b : ℕ) → 0 < a → b ≡ 0 → a ≡ b → ⊥
 above-zero a b h e g = omega arith
 
@@ -69,11 +83,12 @@ pub bound-above : (s : Bool) (b : Float) → Ordinary b → le b (zeroOf s) ≡ 
 unfolding le
 bound-above s b o =
     let z = zeroOf s in
-    let e : 0 * den b ≡ 0 = zero-mul (den b) in
-    let l : lt b z ≡ false = lt-is b z (o .bounded) tt ∙ ap (λ (t : Bool). below t (num b * 1) s (0 * den b)) (plus b o) ∙ go s in
-    let q : eq b z ≡ false =
-    eq-is b z (o .bounded) tt
-    ∙ ap (λ (t : Bool). t && (Bool·beq (minus? b) s || eqb (num b * 1) 0)) (is-false (eqb (num b * 1) (0 * den b)) (λ t. above-zero (num b * 1) (0 * den b) (subst (λ (n : ℕ). 0 < n) (sym (mul-one (num b))) (num-above b o)) e (eqb→eq (num b * 1) (0 * den b) t))) in
+    let n = num b * 1 in
+    let m = 0 * den b in
+    let up : 0 < n = subst (λ (k : ℕ). 0 < k) (sym (mul-one (num b))) (num-above b o) in
+    let l : lt b z ≡ false = lt-is b z (o .bounded) tt ∙ ap (λ (t : Bool). below t n s m) (plus b o) ∙ go s in
+    let apart : eqb n m ≡ false = is-false (eqb n m) (λ t. above-zero n m up (zero-mul (den b)) (eqb→eq n m t)) in
+    let q : eq b z ≡ false = eq-is b z (o .bounded) tt ∙ ap (λ (t : Bool). t && (Bool·beq (minus? b) s || eqb n 0)) apart in
     rw (l, q)
   where
     go : (s : Bool) → below false (num b * 1) s (0 * den b) ≡ false
@@ -92,16 +107,13 @@ sum-minus a b c e t = ap (λ (n : ℕ). round binary64 true n c) (both-ways a b 
     go true t = refl
     go false t = absurd t
 
-minus-d : (d : Float) → T (finite d) → T (lt nought d) → (s : Bool) → zeroOf s ⊖ d ≡ sum binary64 s (0 * den d) true (num d * 1) (1 * den d)
-unfolding sub
-minus-d d p h s = add-is binary64 (zeroOf s) (neg d) tt (neg-finite d p) ∙ rw (neg-num d, neg-den d, neg-sign d p, lt-plus d p h)
-
-sub-zero : (s : Bool) (d : Float) → T (finite d) → T (lt nought d) → zeroOf s ⊖ d ≡ zeroOf false ⊖ d
-sub-zero false d p h = refl
-sub-zero true d p h =
-    minus-d d p h true
-    ∙ sum-minus (0 * den d) (num d * 1) (1 * den d) (zero-mul (den d)) (subst T (ap (λ (z : Float). lt z d) nought-is ∙ lt-is (zeroOf false) d tt p ∙ ap (λ (s : Bool). below false (0 * den d) s (num d * 1)) (lt-plus d p h)) h)
-    ∙ sym (minus-d d p h false)
+sub-zero : (s : Bool) (d : Float) → T (lt nought d) → zeroOf s ⊖ d ≡ zeroOf false ⊖ d
+unfolding sub lt ofBits
+sub-zero false d h = refl
+sub-zero true nan h = refl
+sub-zero true (inf t) h = refl
+sub-zero true (fin true n d) h = absurd h
+sub-zero true (fin false n d) h = sum-minus (0 * down d) (n * up d * 1) (1 * down d) (zero-mul (down d)) h
 
 -- ---- a zero divided by the roots
 record Nil (v : Float) : Type 0 where
@@ -116,13 +128,9 @@ nil-of v s a c C e h = record {
 
 round-nil : (s : Bool) (a c : ℕ) → 0 < c → a ≡ 0 → Nil (round binary64 s a c)
 round-nil s a c C e =
+    let none : a * 2 ^ low binary64 ≡ 0 * c = ap (λ (z : ℕ). z * 2 ^ low binary64) e ∙ zero-mul (2 ^ low binary64) ∙ sym (zero-mul c) in
     nil-of (round binary64 s a c) s a c C e
-    (round-exact binary64 s a c 0 0 C (pow-pos (prec binary64)) (pow-pos (low binary64 + suc (emax binary64))) (ap (λ (z : ℕ). z * 2 ^ low binary64) e ∙ zero-mul (2 ^ low binary64) ∙ sym (zero-mul c)))
-
-div-nil : (s : Bool) (r : Float) → Ordinary r → Nil (zeroOf s ⊘ r)
-div-nil s r o =
-    subst Nil (sym (div-is binary64 (zeroOf s) r tt (o .bounded) ∙ rw (positive-zero (num r) (num-above r o))))
-    (round-nil (unlike s (minus? r)) (0 * den r) (num r * 1) (mul-pos (num-above r o) (pow-pos 0)) (zero-mul (den r)))
+    (round-exact binary64 s a c 0 0 C (pow-pos (prec binary64)) (pow-pos (low binary64 + suc (emax binary64))) none)
 
 more : (a b : ℕ) → a ≡ 0 → 0 < b → a < b
 more a b e h = omega arith
@@ -142,15 +150,21 @@ nil-low : (v : Float) → Nil v → le v minPositive ≡ true
 unfolding le ofBits
 nil-low v n = or-left (lt v minPositive) (eq v minPositive) (lt-is v minPositive (n .some) tt ∙ go (minus? v))
   where
-    tall : 0 < num minPositive * den v
+    a : ℕ
+    a = num v * den minPositive
+
+    b : ℕ
+    b = num minPositive * den v
+
+    none : a ≡ 0
+    none = ap (λ (z : ℕ). z * den minPositive) (n .none) ∙ zero-mul (den minPositive)
+
+    tall : 0 < b
     tall = mul-pos (pow-pos 0) (den-pos v)
 
-    go : (s : Bool) → below s (num v * den minPositive) false (num minPositive * den v) ≡ true
-    go false =
-        is-true (ltb (num v * den minPositive) (num minPositive * den v))
-        (lt→ltb (num v * den minPositive) (num minPositive * den v) (more (num v * den minPositive) (num minPositive * den v) (ap (λ (z : ℕ). z * den minPositive) (n .none) ∙ zero-mul (den minPositive)) tall))
-    go true =
-        is-true (ltb 0 (num v * den minPositive + num minPositive * den v)) (lt→ltb 0 (num v * den minPositive + num minPositive * den v) (more' (num v * den minPositive) (num minPositive * den v) tall))
+    go : (s : Bool) → below s a false b ≡ true
+    go false = is-true (ltb a b) (lt→ltb a b (more a b none tall))
+    go true = is-true (ltb 0 (a + b)) (lt→ltb 0 (a + b) (more' a b tall))
 
 nil-not-below : (v : Float) → Nil v → le nought v ≡ true
 unfolding le ofBits
@@ -161,9 +175,41 @@ nil-valued : (x v : Float) → Nil v → valued x v ≡ atOnce (total nought)
 unfolding valued
 nil-valued x v n = rw (nil-low v n, nil-not-below v n)
 
-pub zero-priced : (s : Bool) (d b r x t : Float) → T (finite d) → Ordinary b → Ordinary r → priced (zeroOf s) d b r x t ≡ priced (zeroOf false) d b r x t
-zero-priced s d b r x t p o q = rw (priced-is (zeroOf s) d b r x t, priced-is (zeroOf false) d b r x t, eq-zero s (max d nought), bound-above s b o, bound-above false b o, go (lt nought d) (sub-zero s d p))
+-- ±0 / r is NaN for both signs, or a zero for both
+nil-same : (x v w : Float) → Nil v → Nil w → valued x v ≡ valued x w
+nil-same x v w n m = nil-valued x v n ∙ sym (nil-valued x w m)
+
+nil-over : (s : Bool) (x r : Float) → valued x (zeroOf s ⊘ r) ≡ valued x (zeroOf false ⊘ r)
+unfolding div
+nil-over s x nan = refl
+nil-over s x (inf t) = nil-same x (zeroOf (unlike s t)) (zeroOf (unlike false t)) (record { some = tt; none = refl }) (record { some = tt; none = refl })
+nil-over s x (fin t zero d) = refl
+nil-over s x (fin t (suc n) d) = rw (eqb·suc-zero n) (nil-same x _ _ (quotient s) (quotient false))
   where
-    go : (u : Bool) → (T u → zeroOf s ⊖ d ≡ zeroOf false ⊖ d) → valued x (cond u (zeroOf s ⊖ d) (zeroOf s) ⊘ r) ≡ valued x (cond u (zeroOf false ⊖ d) (zeroOf false) ⊘ r)
+    quotient : (s : Bool) → Nil (round binary64 (unlike s t) (0 * down d) (suc n * up d * 1))
+    quotient s =
+        round-nil (unlike s t) (0 * down d) (suc n * up d * 1) (mul-pos (mul-pos (zero-lt-suc n) (up-pos d)) (pow-pos 0)) (zero-mul (down d))
+
+pub zero-priced : (s : Bool) (d b r x t : Float) → priced (zeroOf s) d b r x t ≡ priced (zeroOf false) d b r x t
+unfolding priced
+zero-priced s d b r x t = rw (eq-zero s (max d nought), le-zero s b, eq-zero s b, go (lt nought d) (sub-zero s d))
+  where
+    go : (u : Bool) → (T u → zeroOf s ⊖ d ≡ zeroOf false ⊖ d)
+        → valued x (cond u (zeroOf s ⊖ d) (zeroOf s) ⊘ r) ≡ valued x (cond u (zeroOf false ⊖ d) (zeroOf false) ⊘ r)
     go true e = ap (λ (z : Float). valued x (z ⊘ r)) (e tt)
-    go false e = nil-valued x (zeroOf s ⊘ r) (div-nil s r q) ∙ sym (nil-valued x (zeroOf false ⊘ r) (div-nil false r q))
+    go false e = nil-over s x r
+
+-- ---- MINUS ZERO AS PRICE IS ZERO, for a side of any number and other figures of any bits: the replies are the same
+abbrev pub minusZero : Float
+minusZero = bits 0x8000_0000_0000_0000
+
+pub input-of-minus-zero : (side : ℕ) (forward strike time : Float)
+    → impliedBlackVolatilityInput side minusZero forward strike time ≡ impliedBlackVolatilityInput side nought forward strike time
+unfolding impliedBlackVolatilityInput inputOutcome firstRefusal ofBits
+input-of-minus-zero side f k t =
+    rw (zero-priced true (intrinsicValue side f k) (priceBound side f k) (sqrt f ⊗ sqrt k) (negativeAbsLogMoneyness f k) t)
+
+pub normalised-of-minus-zero : (logMoneyness : Float)
+    → impliedBlackVolatilityNormalised logMoneyness minusZero ≡ impliedBlackVolatilityNormalised logMoneyness nought
+unfolding impliedBlackVolatilityNormalised normalisedOutcome le ofBits
+normalised-of-minus-zero x = refl

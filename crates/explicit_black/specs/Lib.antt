@@ -18,5 +18,6 @@ pub mod LawsKinds
 pub mod LawsQuote
 pub mod LawsSteps
 pub mod LawsZeroPrice
+pub mod LawsPowers
 pub mod LawsDemand
 pub mod Keystrokes

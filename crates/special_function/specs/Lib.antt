@@ -6,3 +6,4 @@ pub mod NormalDistribution
 pub mod Erfinv
 pub mod Shared
 pub mod Laws
+pub mod Examples

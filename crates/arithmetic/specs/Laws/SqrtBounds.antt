@@ -1,19 +1,17 @@
--- The root of a finite value above zero is finite and above zero; that of an ordinary value lies from 2 ^ -511 to (2 ^ 53 - 1) * 2 ^ 459, so that the product of two is ordinary, and scales by 4 ^ k where both do. Assumes nothing.
+-- The root of a finite value above zero is finite and above zero; that of an ordinary value lies from 2 ^ -511 to (2 ^ 53 - 1) * 2 ^ 459, so that the
+-- product of two is finite, and scales by 4 ^ k where both do. Assumes nothing.
 use mathlib.Core.Path.{_≡_, sym, ap, _∙_, subst}
 use mathlib.Core.Logic.{inl}
 use Prim.Native.Nat.{ℕ, _+_, _*_, _^_, _≤_, _<_}
-use native.Mathlib.Nat.{le-trans, le-of-eq, le-of-suc-le-suc, lt-of-lt-of-le, lt-of-not-le, lt-irrefl, one-mul, mul-one, mul-pos, mul-assoc, mul-comm, mul-left-comm, mul-right-comm, mul-mul-mul-comm, mul-le-mul, mul-le-mul-left, mul-le-mul-right, le-of-mul-le-mul-right}
+use native.Mathlib.Nat.{le-trans, le-of-eq, le-of-suc-le-suc, lt-of-lt-of-le, lt-of-not-le, lt-irrefl, mul-one, mul-pos, mul-assoc, mul-comm, mul-left-comm, mul-right-comm, mul-mul-mul-comm, mul-le-mul, mul-le-mul-left, mul-le-mul-right, le-of-mul-le-mul-right}
 use native.Mathlib.Omega.{arith}
 use mathlib.Core.Bool.{false}
 use lib.IntN.{pos}
 use lib.Dec.{T, lit≤}
 use lib.Pow.{pow-add, pow-pos, pow-mono}
-use lib.Ieee.{Float, fin, binary64, fits, le, mul, round}
-use lib.Ieee.Fits.{mul-fits}
-use lib.Ieee.Order.{round-mono}
+use lib.Ieee.{Float, fin, binary64, fits, mul, round}
 use lib.Ieee.Scale.{finite, normal-of-fraction}
 use lib.Ieee.Positive.{num, den, den-pos, positive, positive-of-value, value→cross}
-use Rattle.arithmetic.specs.Operations.{minPositive}
 use Rattle.arithmetic.specs.Basic.{minus?}
 use Rattle.arithmetic.specs.Sqrt.{sqrt}
 use Rattle.arithmetic.specs.Laws.Numbers.{four}
@@ -21,7 +19,7 @@ use Rattle.arithmetic.specs.Laws.Times.{Times, has-finite, has-sign}
 use Rattle.arithmetic.specs.Laws.Own.{grid-under}
 use Rattle.arithmetic.specs.Laws.Sums.{round-finite}
 use Rattle.arithmetic.specs.Laws.Products.{mul-is, mul-times}
-use Rattle.arithmetic.specs.Laws.Halves.{Ordinary, ordinary-positive, large-cross, minPositive-is}
+use Rattle.arithmetic.specs.Laws.Halves.{Ordinary, ordinary-positive, large-cross}
 use Rattle.arithmetic.specs.Laws.SqrtNearest.{sqrt-right}
 use Rattle.arithmetic.specs.Laws.SqrtScaling.{sqrt-times}
 
@@ -113,19 +111,6 @@ roots-finite f k o q =
     (round-finite binary64 false (num a * num b) (den a * den b)
     (grid-under binary64 (num a * num b) (den a * den b) largest (mul-pos (den-pos a) (den-pos b)) largest-fits tt
     (square-high (num a) (den a) (num b) (den b) (num largestRoot) (num largest) (root-most f o) (root-most k q) (lit≤ tt))))
-
-pub roots-ordinary : (f k : Float) → Ordinary f → Ordinary k → Ordinary (mul binary64 (sqrt f) (sqrt k))
-roots-ordinary f k o q =
-    let a = sqrt f in
-    let b = sqrt k in
-    record {
-      held = mul-fits binary64 a b;
-      bounded = roots-finite f k o q;
-      large =
-          subst (λ (z : Float). T (le minPositive z)) (sym (product-is f k o q))
-          (subst (λ (z : Float). T (le z (round binary64 false (num a * num b) (den a * den b)))) minPositive-is
-          (round-mono binary64 1 (2 ^ 1022) (num a * num b) (den a * den b) (pow-pos 1022) (mul-pos (den-pos a) (den-pos b)) (le-trans (le-of-eq (one-mul (den a * den b))) (product-low f k o q))));
-    }
 
 pub roots-times : (n : ℕ) (f k f' k' : Float) → Ordinary f → Ordinary k → Ordinary f' → Ordinary k' → Times (n + n) f f' → Times (n + n) k k' → Times (n + n) (mul binary64 (sqrt f) (sqrt k)) (mul binary64 (sqrt f') (sqrt k'))
 roots-times n f k f' k' o q o' q' h g =

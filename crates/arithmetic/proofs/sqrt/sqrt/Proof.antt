@@ -7,6 +7,7 @@ use lib.Ieee.Bits.{ofBits-toBits, toBits-lt}
 use Rattle.arithmetic.specs.Sqrt.{sqrt}
 use Rattle.arithmetic.specs.Laws.Compare.{is-no-nan}
 use Rattle.arithmetic.proofs.SqrtPaths.{of-nan, of-zero, of-itself, of-below}
+use native.Mathlib.Omega.{arith}
 use borrow.Author.Needs.{needs}
 use Rattle.arithmetic.proofs.sqrt.sqrt.Statement.{statement}
 use Rattle.arithmetic.proofs.sqrt.sqrt.Tie as tie
@@ -44,12 +45,13 @@ returns-5 : tie.Need-returns-5
 returns-5 c =
     let a = c .before .before .before .before in
     sym (subst (λ (y : Float). sqrt y ≡ y) (back a)
-    (of-itself (toBits binary64 (a .args .x)) (c .before .if4 .left) (c .if5 .taken) (ap isNan (back a) ∙ is-no-nan (a .args .x) (c .before .before .before .if1 .left))))
+    (of-itself (toBits binary64 (a .args .x)) (c .before .if4 .left) (omega (arith, c .if5 .taken))
+    (ap isNan (back a) ∙ is-no-nan (a .args .x) (c .before .before .before .if1 .left))))
 
 returns-6 : tie.Need-returns-6
 returns-6 c =
     let a = c .before .before .before .before in
-    nan-of ∙ sym (of-below (toBits binary64 (a .args .x)) (c .if5 .left) (toBits-lt binary64 (a .args .x) (held a))) ∙ ap sqrt (back a)
+    nan-of ∙ sym (of-below (toBits binary64 (a .args .x)) (omega (arith, c .if5 .left)) (toBits-lt binary64 (a .args .x) (held a))) ∙ ap sqrt (back a)
 
 pub sqrt-spec : {M : Type 1} → statement M
 sqrt-spec =

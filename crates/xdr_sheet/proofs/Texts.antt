@@ -10,16 +10,17 @@ use borrow.Author.Tests.{lt-leb, le-leb}
 use lib.Dec.{T, ltb, ltb→lt, nltb→le, lit<, lit≤}
 use lib.Ieee.{Float, binary64, toBits}
 use lib.ListN.{length, take, drop, set, getD, length-append, length-map}
-use lib.Seq.{paste, take-suc-set, take-suc, take-all, length-take-le}
+use lib.Seq.{take-suc-set, take-suc, take-all, drop-cons, append-snoc, set-at, length-front, length-take-le}
 use Rattle.explicit_black.specs.declared.quote.Reply.{Reply as Handed}
 use Rattle.explicit_black.specs.declared.quote.Reply.the-variants.{Answer, Refusal}
 use Rattle.explicit_black.specs.Replies.{replied}
 use Rattle.io.specs.Digits.{digits, Fewest}
 use Rattle.xdr_sheet.specs.declared.text.Line.{Line}
 use Rattle.xdr_sheet.specs.declared.text.Placed.{Placed}
-use Rattle.xdr_sheet.specs.declared.text.Placed.the-variants.{At, Full}
+use Rattle.xdr_sheet.specs.declared.text.Placed.the-variants.{Bytes, NoRoom}
 use Rattle.xdr_sheet.specs.Text.{places, decimal, hexadecimal, answerFields, refusalFields, line}
-use Rattle.xdr_sheet.specs.Lines.{written, Extended, placed, appended}
+use Rattle.xdr_sheet.specs.Lines.{written, Extended, placed, placing}
+use Rattle.xdr_sheet.specs.LawsLines.{few-places}
 
 -- ---- lines
 pub same-line : (l : Line) → Extended l [] l
@@ -90,22 +91,28 @@ pub refusal-line : (number reason count : ℕ) {a b r : Line} {reply : Handed}
 unfolding line
 refusal-line number reason count e h g i = from-empty e (h then g) ∙ rw i
 
--- ---- a text in a buffer
-abbrev Appends : List ℕ → ℕ → List ℕ → List ℕ → Placed → Type 0
-Appends text at before after r = (r ≡ placed text at before) × (after ≡ appended text at before)
+-- ---- a text at the start of a buffer
+abbrev Places : List ℕ → List ℕ → List ℕ → Placed → Type 0
+Places text buffer after r = (r ≡ placed text buffer) × (after ≡ placing text buffer)
 
-pub no-room : (text : List ℕ) (at : ℕ) (before : List ℕ) → length before < at + length text → Appends text at before before Full
-unfolding placed appended
-no-room text at before h = rw (lt-leb (at + length text) (length before) h) (refl, refl)
+pub no-room : (text buffer : List ℕ) → length buffer < length text → Places text buffer buffer NoRoom
+unfolding placed placing
+no-room text buffer h = rw (lt-leb (length text) (length buffer) h) (refl, refl)
 
-pub with-room : (l : Line) (n at : ℕ) (before after : List ℕ) → n ≡ length (written l) → at + n ≤ length before → after ≡ paste before at (l .bytes) n → Appends (written l) at before after (At (at + n))
-unfolding placed appended
-with-room l n at before after e h p =
-    let g : at + length (written l) ≤ length before = omega arith in
-    rw (le-leb (at + length (written l)) (length before) g) (
-      ap (λ (k : ℕ). At (at + k)) e,
-      p ∙ ap (paste before at (l .bytes)) e ∙ ap (λ (t : List ℕ). take at before ++ t ++ drop (at + length (written l)) before) (take-written l),
-    )
+pub with-room : (l : Line) (n : ℕ) (buffer after : List ℕ) → n ≡ length (written l) → n ≤ length buffer → after ≡ take n (l .bytes) ++ drop n buffer → Places (written l) buffer after (Bytes n)
+unfolding placed placing
+with-room l n buffer after e h p =
+    let g : length (written l) ≤ length buffer = omega arith in
+    rw (le-leb (length (written l)) (length buffer) g) (ap Bytes e, p ∙ rw (e, take-written l))
+
+-- a buffer whose first bytes are replaced, and one byte more
+pub kept-length : (s d : List ℕ) (i : ℕ) → i ≤ length s → i ≤ length d → length (take i s ++ drop i d) ≡ length d
+kept-length s d i h g = length-front d (take i s) i (length-take-le i s h ∙ sym (length-take-le i d g))
+
+pub copied : (s d : List ℕ) (i : ℕ) → i < length s → i < length d → set (take i s ++ drop i d) i (getD s i 0) ≡ take (i + 1) s ++ drop (i + 1) d
+copied s d i h g =
+    rw (add-one i, take-suc s i 0, drop-cons d i 0)
+    (set-at (take i s) (getD d i 0) (drop (suc i) d) (getD s i 0) i (length-take-le i s (omega arith)) ∙ sym (append-snoc (take i s) (getD s i 0) (drop (suc i) d)))
 
 -- ---- how many digits
 less-one : (k : ℕ) → suc k - 1 ≡ k
@@ -146,15 +153,6 @@ places-is (suc f) n k h g = go (ltb n 10) (ltb→lt n 10) (nltb→le n 10)
     go : (b : Bool) → (T b → n < 10) → (T (not b) → 10 ≤ n) → ((j : ℕ) → Fewest 10 1 (n / 10) j → places f (n / 10) ≡ j) → cond b 1 (suc (places f (n / 10))) ≡ k
     go true a b r = few n k (a tt) g
     go false a b r = many k (b tt) g r
-
-few-places : (f n : ℕ) → places f n ≤ suc f
-unfolding places
-few-places zero n = lit≤ tt
-few-places (suc f) n = go (ltb n 10) (few-places f (n / 10))
-  where
-    go : (b : Bool) → places f (n / 10) ≤ suc f → cond b 1 (suc (places f (n / 10))) ≤ suc (suc f)
-    go true h = omega arith
-    go false h = omega arith
 
 pub places-le : (n k : ℕ) → n < 2 ^ 64 → Fewest 10 1 n k → k ≤ 20
 places-le n k h f = subst (λ (x : ℕ). x ≤ 20) (places-is 19 n k (lt-of-lt-of-le h (lit≤ tt)) f) (few-places 19 n)

@@ -28,8 +28,10 @@ returns-2 c =
 
 returns-3 : tie.Need-returns-3
 returns-3 c =
-    let a = c .before .before .before .before in
-    quote-none (a .args .sheet .now) (a .args .index) (sym (ap sized (c .enum-told .given .1)) ∙ c .before .before .quotes-in .ensures)
+    let n = c .before in
+    let q = n .before .before in
+    let a = q .before .before .args in
+    quote-none (a .sheet .now) (a .index) _ _ (sym (ap sized (n .number .given .1)) ∙ q .quotes-in .ensures)
 
 pub reply-spec : {M : Type 1} → statement M
 reply-spec =

@@ -238,7 +238,8 @@ pub extern "C" fn quoter_sheet_quote(
     volatility: &mut f64,
     count: &mut u64,
 ) -> u32
-    ensures { λ r. ⌜ handed r (now (total .exit)) (now (volatility .exit)) (now (count .exit)) ≡ handingOf (now (total .entry)) (now (volatility .entry)) (now (count .entry)) (quotedAt (now (sheet .entry)) index) ⌝ }
+    ensures { λ r. ⌜ handed r (now (total .exit)) (now (volatility .exit)) (now (count .exit))
+        ≡ handingOf (now (total .entry)) (now (volatility .entry)) (now (count .entry)) (quotedAt (now (sheet .entry)) index) ⌝ }
 {
     match xdr_sheet::sheet::reply(sheet, index) {
         Asked::Replied(reply) => hand(reply, total, volatility, count),
@@ -256,7 +257,8 @@ pub extern "C" fn quoter_sheet_line(
     text: &mut [u8],
     count: &mut u64,
 ) -> u32
-    ensures { λ r. ⌜ lined r (now (count .exit)) (now (text .exit)) ≡ lining (now (count .entry)) (now (text .entry)) (step (now (sheet .entry)) (record { answers = answers; refusals = refusals })) ⌝ }
+    ensures { λ r. ⌜ lined r (now (count .exit)) (now (text .exit))
+        ≡ lining (now (count .entry)) (now (text .entry)) (step (now (sheet .entry)) (record { answers = answers; refusals = refusals })) ⌝ }
 {
     let tally = Tally {
         answers: answers,

@@ -8,13 +8,13 @@ use lib.ListN.{length, take, drop, length-append, length-drop, take-append-drop,
 use lib.Seq.{take-all, take-append-seam, drop-append-seam, drop-drop}
 use Rattle.xdr_sheet.specs.Lines.{overlaid, placed, placing}
 use Rattle.xdr_sheet.specs.LawsLines.{placed-bytes, placed-none}
-use Rattle.xdr_sheet.specs.Printing.{Step, step, left, Part, noPart, _before_, part, Fills}
-use Rattle.xdr_sheet.specs.LawsPrinting.{rest-step, part-line, part-none}
+use Rattle.xdr_sheet.specs.Printing.{Step, step, left, Part, noPart, _before_, part, filling, filled}
+use Rattle.xdr_sheet.specs.LawsPrinting.{rest-step, part-over, part-line, part-none}
 use Rattle.xdr_sheet.specs.declared.tally.Tally.{Tally}
 use Rattle.xdr_sheet.specs.declared.text.Placed.{Placed}
 use Rattle.xdr_sheet.specs.declared.text.Placed.the-variants.{Bytes, NoRoom}
 use Rattle.xdr_sheet.specs.declared.printing.Progress.{Progress}
-use Rattle.xdr_sheet.specs.declared.printing.Progress.the-variants.{Tallied}
+use Rattle.xdr_sheet.specs.declared.printing.Progress.the-variants.{Tallied, Over}
 
 -- some lines are in the buffer, and what else goes into it comes after them
 pub record Sofar (s : List ℕ) (p : Progress) (buffer : List ℕ) (count : ℕ) (next : Progress) (out : List ℕ) : Type 0 where
@@ -30,12 +30,16 @@ nothing-yet s p buffer =
     let z : length buffer - 0 ≡ length buffer = omega arith in
     record { done = []; counts = refl; within = omega arith; bytes = refl; same = refl; more = rw z }
 
-pub enough : (s : List ℕ) (p : Progress) (buffer : List ℕ) (count : ℕ) (next : Progress) (out : List ℕ)
-    → Sofar s p buffer count next out → part s next (length buffer - count) ≡ noPart next → Fills (part s p (length buffer)) buffer (record { count = count; next = next }) out
+enough : (s : List ℕ) (p : Progress) (buffer : List ℕ) (count : ℕ) (next : Progress) (out : List ℕ)
+    → Sofar s p buffer count next out → part s next (length buffer - count) ≡ noPart next
+    → filled (record { count = count; next = next }) out ≡ filling buffer (part s p (length buffer))
 enough s p buffer count next out h g =
     let e : part s p (length buffer) ≡ h .done before noPart next = h .more ∙ ap (λ (q : Part). h .done before q) g in
-    let f : part s p (length buffer) .text ≡ h .done = ap (λ (q : Part). q .text) e ∙ append-nil (h .done) in
-    record { count = rw f (h .counts); next = sym (ap (λ (q : Part). q .next) e); bytes = rw f (h .bytes) }
+    rw (e, append-nil (h .done), h .counts, h .bytes)
+
+pub all-lines : {s : List ℕ} {p : Progress} {buffer : List ℕ} {count : ℕ} {next : Progress} {out : List ℕ}
+    → Sofar s p buffer count next out → next ≡ Over → filled (record { count = count; next = Over }) out ≡ filling buffer (part s p (length buffer))
+all-lines {s} {p} {buffer} {count} {out = out} h e = enough s p buffer count Over out (rw e at h) (part-over s (length buffer - count))
 
 -- ---- lists
 overlaid-more : (done l buffer : List ℕ) → done ++ overlaid l (drop (length done) buffer) ≡ overlaid (done ++ l) buffer
@@ -67,10 +71,13 @@ module _ (s : List ℕ) (p : Progress) (buffer : List ℕ) (count : ℕ) (t : Ta
   after-line : take count out ++ overlaid line (drop count out) ≡ overlaid (h .done ++ line) buffer
   after-line = rw (h .bytes, h .counts, take-append-seam, drop-append-seam) (overlaid-more (h .done) line buffer)
 
-  part-after : length line ≤ length buffer - count → part s p (length buffer) ≡ (h .done ++ line) before part s (step s t .next) (length buffer - (count + length line))
+  part-after : length line ≤ length buffer - count
+      → part s p (length buffer) ≡ (h .done ++ line) before part s (step s t .next) (length buffer - (count + length line))
   part-after g =
       let e : length buffer - (count + length line) ≡ length buffer - count - length line = omega arith in
-      rw e (h .more ∙ ap (λ (q : Part). h .done before q) (part-line s t (length buffer - count) g) ∙ before-before (h .done) line (part s (step s t .next) (length buffer - count - length line)))
+      rw e
+      (h .more ∙ ap (λ (q : Part). h .done before q) (part-line s t (length buffer - count) g)
+      ∙ before-before (h .done) line (part s (step s t .next) (length buffer - count - length line)))
 
   line-fits : length line ≤ length (drop count out) → Sofar s p buffer (count + length line) (step s t .next) (take count out ++ overlaid line (drop count out))
   line-fits g =
@@ -84,7 +91,7 @@ module _ (s : List ℕ) (p : Progress) (buffer : List ℕ) (count : ℕ) (t : Ta
         more = part-after fits;
       }
 
-  none-fits : length (drop count out) < length line → Fills (part s p (length buffer)) buffer (record { count = count; next = Tallied t }) out
+  none-fits : length (drop count out) < length line → filled (record { count = count; next = Tallied t }) out ≡ filling buffer (part s p (length buffer))
   none-fits g = enough s p buffer count (Tallied t) out h (part-none s t (length buffer - count) (omega (arith, room)))
 
 -- ---- a turn of the loop: the line is put into what is lent of the buffer, or has no room there
@@ -93,15 +100,19 @@ Puts text count out r ys = (r ≡ placed text (midOf count (length out - count) 
 
 module _ {s : List ℕ} {p : Progress} {buffer : List ℕ} {count : ℕ} {next : Progress} {out : List ℕ} {t : Tally} {l : Step}
     (h : Sofar s p buffer count next out) (e : next ≡ Tallied t) (m : l ≡ step s t) where
-  pub one-line : (n : ℕ) (ys : List ℕ) → Puts (l .text) count out (Bytes n) ys → Sofar s p buffer (count + n) (l .next) (putMid count (length out - count) out ys)
+  pub one-line : (n : ℕ) (ys : List ℕ) → Puts (l .text) count out (Bytes n) ys
+      → Sofar s p buffer (count + n) (l .next) (putMid count (length out - count) out ys)
   one-line n ys g =
       let f = placed-bytes (l .text) (midOf count (length out - count) out) n (g .0) in
-      rw (put-tail count out ys, g .1, f .2, f .0, m, tail count out) (line-fits s p buffer count t out (rw e at h) (rw (m, tail count out) at (f .1)))
+      rw (put-tail count out ys, g .1, f .2, f .0, m, tail count out)
+      (line-fits s p buffer count t out (rw e at h) (rw (m, tail count out) at (f .1)))
 
-  pub no-line : (ys : List ℕ) → Puts (l .text) count out NoRoom ys → Fills (part s p (length buffer)) buffer (record { count = count; next = Tallied t }) (putMid count (length out - count) out ys)
+  pub no-line : (ys : List ℕ) → Puts (l .text) count out NoRoom ys
+      → filled (record { count = count; next = Tallied t }) (putMid count (length out - count) out ys) ≡ filling buffer (part s p (length buffer))
   no-line ys g =
       let f = placed-none (l .text) (midOf count (length out - count) out) (g .0) in
-      rw (put-tail count out ys, g .1, f .1, tail count out, take-append-drop count out) (none-fits s p buffer count t out (rw e at h) (rw (m, tail count out) at (f .0)))
+      rw (put-tail count out ys, g .1, f .1, tail count out, take-append-drop count out)
+      (none-fits s p buffer count t out (rw e at h) (rw (m, tail count out) at (f .0)))
 
   pub same-back : (ys : List ℕ) → length ys ≡ length (midOf count (length out - count) out) → length (putMid count (length out - count) out ys) ≡ length buffer
   same-back ys g = same-len-mid count (length out - count) out ys g ∙ h .same

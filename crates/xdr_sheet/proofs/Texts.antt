@@ -3,7 +3,8 @@ use mathlib.Core.Path.{_≡_, refl, sym, ap, _∙_, subst}
 use mathlib.Core.List.{List, [], _∷_, _++_, map, append-assoc, append-nil}
 use Prim.Native.Nat.{ℕ, zero, suc, _+_, _-_, _*_, _/_, _^_, _≤_, _<_}
 use native.Mathlib.Numerals.{add-one}
-use native.Mathlib.Nat.{pow-suc, lt-of-lt-of-le, lt-of-not-le, not-le-of-lt, le-of-suc-le-suc, not-suc-le-zero, lt-irrefl, le-antisymm, le-trans, div-lt-iff-lt-mul, le-div-iff-mul-le, pow-le-pow-right}
+use native.Mathlib.Nat.{lt-of-lt-of-le, lt-of-not-le, not-le-of-lt, le-of-suc-le-suc, not-suc-le-zero, lt-irrefl, le-antisymm, le-trans}
+use native.Mathlib.Nat.{pow-suc, div-lt-iff-lt-mul, le-div-iff-mul-le, pow-le-pow-right}
 use native.Mathlib.Omega.{arith}
 use mathlib.Core.Bool.{Bool, true, false, not, cond}
 use borrow.Author.Tests.{lt-leb, le-leb}
@@ -73,7 +74,8 @@ take-written l = go (l .length) (l .bytes)
     go (suc n) (x ∷ s) = ap (λ (r : List ℕ). x ∷ r) (go n s)
 
 -- one byte more
-pub one-more : (l r : Line) (b : ℕ) → l .length < length (l .bytes) → r .bytes ≡ set (l .bytes) (l .length) b → r .length ≡ l .length + 1 → Extended l (b ∷ []) r
+pub one-more : (l r : Line) (b : ℕ)
+    → l .length < length (l .bytes) → r .bytes ≡ set (l .bytes) (l .length) b → r .length ≡ l .length + 1 → Extended l (b ∷ []) r
 one-more l r b h e n = record {
   text = ap (λ (k : ℕ). take k (r .bytes)) (n ∙ add-one (l .length)) ∙ ap (take (suc (l .length))) e ∙ take-suc-set (l .bytes) (l .length) b h;
   count = n;
@@ -87,7 +89,8 @@ unfolding line
 answer-line number p q count e h g i j k = from-empty e (h then g) ∙ rw (i, j, k)
 
 pub refusal-line : (number reason count : ℕ) {a b r : Line} {reply : Handed}
-    → written a ≡ [] → Extended a (decimal number) b → Extended b (refusalFields reason count) r → reply ≡ Refusal reason count → written r ≡ line number (replied reply)
+    → written a ≡ [] → Extended a (decimal number) b → Extended b (refusalFields reason count) r
+    → reply ≡ Refusal reason count → written r ≡ line number (replied reply)
 unfolding line
 refusal-line number reason count e h g i = from-empty e (h then g) ∙ rw i
 
@@ -99,7 +102,8 @@ pub no-room : (text buffer : List ℕ) → length buffer < length text → Place
 unfolding placed placing
 no-room text buffer h = rw (lt-leb (length text) (length buffer) h) (refl, refl)
 
-pub with-room : (l : Line) (n : ℕ) (buffer after : List ℕ) → n ≡ length (written l) → n ≤ length buffer → after ≡ take n (l .bytes) ++ drop n buffer → Places (written l) buffer after (Bytes n)
+pub with-room : (l : Line) (n : ℕ) (buffer after : List ℕ)
+    → n ≡ length (written l) → n ≤ length buffer → after ≡ take n (l .bytes) ++ drop n buffer → Places (written l) buffer after (Bytes n)
 unfolding placed placing
 with-room l n buffer after e h p =
     let g : length (written l) ≤ length buffer = omega arith in
@@ -112,7 +116,8 @@ kept-length s d i h g = length-front d (take i s) i (length-take-le i s h ∙ sy
 pub copied : (s d : List ℕ) (i : ℕ) → i < length s → i < length d → set (take i s ++ drop i d) i (getD s i 0) ≡ take (i + 1) s ++ drop (i + 1) d
 copied s d i h g =
     rw (add-one i, take-suc s i 0, drop-cons d i 0)
-    (set-at (take i s) (getD d i 0) (drop (suc i) d) (getD s i 0) i (length-take-le i s (omega arith)) ∙ sym (append-snoc (take i s) (getD s i 0) (drop (suc i) d)))
+    (set-at (take i s) (getD d i 0) (drop (suc i) d) (getD s i 0) i (length-take-le i s (omega arith))
+    ∙ sym (append-snoc (take i s) (getD s i 0) (drop (suc i) d)))
 
 -- ---- how many digits
 less-one : (k : ℕ) → suc k - 1 ≡ k
@@ -125,7 +130,9 @@ few : (n k : ℕ) → n < 10 → Fewest 10 1 n k → 1 ≡ k
 few n zero h f = absurd (not-suc-le-zero (f .0))
 few n (suc zero) h f = refl
 few n (suc (suc k)) h f =
-    absurd (not-le-of-lt h (le-trans (pow-le-pow-right {n = 10} (lit< tt) (le-of-suc-le-suc (more k))) (subst (λ (x : ℕ). 10 ^ x ≤ n) (less-one (suc k)) (f .2 (more k)))))
+    absurd
+    (not-le-of-lt h (le-trans (pow-le-pow-right {n = 10} (lit< tt) (le-of-suc-le-suc (more k)))
+    (subst (λ (x : ℕ). 10 ^ x ≤ n) (less-one (suc k)) (f .2 (more k)))))
 
 -- one digit less of the number
 tenth : (n k : ℕ) → 10 ≤ n → Fewest 10 1 n (suc (suc k)) → Fewest 10 1 (n / 10) (suc k)
@@ -150,7 +157,8 @@ places-is (suc f) n k h g = go (ltb n 10) (ltb→lt n 10) (nltb→le n 10)
     many (suc zero) l g r = absurd (not-le-of-lt (g .1) l)
     many (suc (suc k)) l g r = ap suc (r (suc k) (tenth n k l g))
 
-    go : (b : Bool) → (T b → n < 10) → (T (not b) → 10 ≤ n) → ((j : ℕ) → Fewest 10 1 (n / 10) j → places f (n / 10) ≡ j) → cond b 1 (suc (places f (n / 10))) ≡ k
+    go : (b : Bool) → (T b → n < 10) → (T (not b) → 10 ≤ n)
+        → ((j : ℕ) → Fewest 10 1 (n / 10) j → places f (n / 10) ≡ j) → cond b 1 (suc (places f (n / 10))) ≡ k
     go true a b r = few n k (a tt) g
     go false a b r = many k (b tt) g r
 
@@ -163,7 +171,8 @@ unfolding decimal
 decimal-is n k h f = ap (λ (x : ℕ). digits 10 x n) (sym (places-is 19 n k (lt-of-lt-of-le h (lit≤ tt)) f))
 
 pub sixteen : (n k : ℕ) → n < 2 ^ 64 → Fewest 16 16 n k → k ≡ 16
-sixteen n k h f = le-antisymm (le-of-suc-le-suc (lt-of-not-le (λ (g : 17 ≤ k). not-le-of-lt h (le-trans (pow-le-pow-right {n = 16} (lit< tt) (less k g)) (f .2 g))))) (f .0)
+sixteen n k h f =
+    le-antisymm (le-of-suc-le-suc (lt-of-not-le (λ (g : 17 ≤ k). not-le-of-lt h (le-trans (pow-le-pow-right {n = 16} (lit< tt) (less k g)) (f .2 g))))) (f .0)
   where
     less : (k : ℕ) → 17 ≤ k → 16 ≤ k - 1
     less k g = omega arith

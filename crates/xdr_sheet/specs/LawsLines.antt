@@ -1,20 +1,21 @@
 -- No line has more than `lineBytes` bytes; a text at the start of a buffer. Assumes nothing.
-use mathlib.Core.Path.{_≡_, refl, ap, _∙_}
+use mathlib.Core.Path.{_≡_, refl, _∙_}
 use Prim.Native.Nat.{ℕ, zero, suc, _+_, _/_, _%_, _≤_, _<_}
 use native.Mathlib.Omega.{arith}
 use mathlib.Core.Bool.{Bool, true, false, not, cond}
-use mathlib.Core.List.{List, [], _∷_, _++_}
+use mathlib.Core.List.{List, [], _∷_}
 use lib.Dec.{T, ltb, lit≤, leb→le, nleb→lt}
 use lib.Ieee.{binary64, toBits}
 use lib.ListN.{length, length-append}
 use Rattle.io.specs.Digits.{digits, glyph}
 use Rattle.explicit_black.specs.Quote.{Reply, answer, refusal}
-use Rattle.xdr_sheet.specs.Text.{ascii, decimalDigits, hexadecimalDigits, lineBytes, places, decimal, hexadecimal, answerFields, refusalFields, line, closing, refusedSheet}
+use Rattle.xdr_sheet.specs.Text.{decimalDigits, hexadecimalDigits, lineBytes, places, decimal, hexadecimal, line, closing, refusedSheet}
 use Rattle.xdr_sheet.specs.Lines.{fitsInto, overlaid, placed, placing}
 use Rattle.xdr_sheet.specs.declared.tally.Tally.{Tally}
 use Rattle.xdr_sheet.specs.declared.text.Placed.the-variants.{Bytes, NoRoom}
 
-never : {A : Type 0} → _≡_ {A = ℕ} 0 1 → A
+-- two constructors are never equal
+pub never : {A : Type 0} → _≡_ {A = ℕ} 0 1 → A
 never z = absurd (omega arith)
 
 -- ---- numbers
@@ -63,7 +64,8 @@ module _ (text buffer : List ℕ) where
   unfolding placed placing
   placed-bytes n e = go (fitsInto text (length buffer)) (leb→le (length text) (length buffer)) e
     where
-      go : (b : Bool) → (T b → length text ≤ length buffer) → Bytes n ≡ cond b (Bytes (length text)) NoRoom → (n ≡ length text) × (length text ≤ length buffer) × (cond b (overlaid text buffer) buffer ≡ overlaid text buffer)
+      go : (b : Bool) → (T b → length text ≤ length buffer) → Bytes n ≡ cond b (Bytes (length text)) NoRoom
+          → (n ≡ length text) × (length text ≤ length buffer) × (cond b (overlaid text buffer) buffer ≡ overlaid text buffer)
       go true h e = (cc, h tt, refl)
       go false h e = never (cc)
 
@@ -71,6 +73,7 @@ module _ (text buffer : List ℕ) where
   unfolding placed placing
   placed-none e = go (fitsInto text (length buffer)) (nleb→lt (length text) (length buffer)) e
     where
-      go : (b : Bool) → (T (not b) → length buffer < length text) → NoRoom ≡ cond b (Bytes (length text)) NoRoom → (length buffer < length text) × (cond b (overlaid text buffer) buffer ≡ buffer)
+      go : (b : Bool) → (T (not b) → length buffer < length text) → NoRoom ≡ cond b (Bytes (length text)) NoRoom
+          → (length buffer < length text) × (cond b (overlaid text buffer) buffer ≡ buffer)
       go true h e = never (cc)
       go false h e = (h tt, refl)

@@ -6,16 +6,17 @@ use native.Mathlib.Numerals.{add-one}
 use native.Mathlib.Nat.{le-trans}
 use mathlib.Core.Bool.{Bool, true, false, cond}
 use mathlib.Core.List.{List, [], _∷_, _++_, append-assoc, append-nil}
-use borrow.Author.Tests.{lt-ltb, le-ltb, le-leb, lt-leb}
+use borrow.Author.Tests.{le-leb, lt-leb}
 use lib.ListN.{length, drop, length-append}
 use Rattle.explicit_black.specs.Quote.{Reply, answer, refusal}
 use Rattle.xdr_sheet.specs.Tally.{emptyTally, tallied, counted}
 use Rattle.xdr_sheet.specs.Text.{lineBytes, line, closing, refusedSheet}
 use Rattle.xdr_sheet.specs.Sheet.{Size, quotes, refused, size, replyAt, Quoted, quoted, noQuote, quotedAt, lines, tally, textOf, text}
-use Rattle.xdr_sheet.specs.Lines.{fitsInto}
+use Rattle.xdr_sheet.specs.Lines.{fitsInto, overlaid}
 use Rattle.xdr_sheet.specs.LawsSheet.{quote-there, quote-past}
 use Rattle.xdr_sheet.specs.LawsLines.{line-short, closing-short, refused-short}
-use Rattle.xdr_sheet.specs.Printing.{start, Step, quoteStep, lastStep, refusedStep, stepAt, stepOf, step, upcoming, restOf, rest, left, Part, noPart, _before_, partOf, part, parts, Roomy, Fills}
+use Rattle.xdr_sheet.specs.Printing.{start, Step, quoteStep, lastStep, refusedStep, stepAt, stepOf, step, upcoming, restOf, rest, left}
+use Rattle.xdr_sheet.specs.Printing.{Part, noPart, _before_, partOf, part, parts, Roomy, Filling, filling, filled}
 use Rattle.xdr_sheet.specs.declared.tally.Tally.{Tally}
 use Rattle.xdr_sheet.specs.declared.printing.Progress.{Progress}
 use Rattle.xdr_sheet.specs.declared.printing.Progress.the-variants.{Tallied, Over}
@@ -110,7 +111,10 @@ part-splits s room p [] e = none-splits s p [] e
 part-splits s room p (l ∷ ls) e = go (fitsInto (l .text) room) (part-splits s (room - length (l .text)) (l .next) ls (after-first s p l ls e))
   where
     go : {q : Part} (b : Bool) → Splits s ls q → Splits s (l ∷ ls) (cond b (l .text before q) (noPart p))
-    go {q} true h = record { whole = append-assoc (l .text) (q .text) (joined (rest s (q .next))) ∙ ap (λ (x : List ℕ). l .text ++ x) (h .whole); fewer = omega arith }
+    go {q} true h = record {
+      whole = append-assoc (l .text) (q .text) (joined (rest s (q .next))) ∙ ap (λ (x : List ℕ). l .text ++ x) (h .whole);
+      fewer = omega arith;
+    }
     go {q} false h = none-splits s p (l ∷ ls) e
 
 -- with room for a line fewer lines are left
@@ -122,13 +126,16 @@ part-falls s t room h =
     (omega (arith, part-splits s (room - length (l .text)) (l .next) (rest s (l .next)) refl .fewer))
 
 -- for the caller of `fill`: the bytes are within the buffer, and fewer lines are left
-pub fill-within : {q : Part} {buffer : List ℕ} {r : Filled} {after : List ℕ} → Fills q buffer r after → length after ≡ length buffer → r .count ≤ length after
-fill-within {q} {buffer} h e =
-    omega (arith, h .count, e, ap length (h .bytes), length-append (q .text) (drop (length (q .text)) buffer))
+module _ (s : List ℕ) (p : Progress) (buffer : List ℕ) (r : Filled) (after : List ℕ) (h : filled r after ≡ filling buffer (part s p (length buffer))) where
+  pub fill-within : length after ≡ length buffer → r .count ≤ length after
+  fill-within e =
+      let x : List ℕ = part s p (length buffer) .text in
+      let c : r .count ≡ length x = ap (λ (f : Filling). f .count) h in
+      let b : length after ≡ length (overlaid x buffer) = ap (λ (f : Filling). length (f .buffer)) h in
+      omega (arith, length-append x (drop (length x) buffer))
 
-pub fill-falls : (s : List ℕ) {buffer after : List ℕ} {t : Tally} {p : Progress} {r : Filled}
-    → Fills (part s p (length buffer)) buffer r after → p ≡ Tallied t → lineBytes ≤ length buffer → left s (r .next) < left s p
-fill-falls s {buffer} {t = t} h e g = rw (h .next, e) (part-falls s t (length buffer) g)
+  pub fill-falls : {t : Tally} → p ≡ Tallied t → lineBytes ≤ length buffer → left s (r .next) < left s p
+  fill-falls {t} e g = rw (ap (λ (f : Filling). f .next) h, e) (part-falls s t (length buffer) g)
 
 -- ---- the parts for some buffers
 parts-split : (s : List ℕ) (p : Progress) (rooms : List ℕ) → parts s p rooms .text ++ joined (rest s (parts s p rooms .next)) ≡ joined (rest s p)

@@ -1,6 +1,6 @@
 -- What the tests of a sheet's length and count say of its size. Assumes nothing.
 use mathlib.Core.Path.{_≡_, refl, sym, _∙_}
-use Prim.Native.Nat.{ℕ, _+_, _*_, _≤_, _<_}
+use Prim.Native.Nat.{ℕ, _+_, _≤_, _<_}
 use mathlib.Core.Bool.{Bool, true, false, not, cond}
 use mathlib.Core.List.{List}
 use borrow.Author.Tests.{lt-ltb, le-ltb, eq-eqb, ne-eqb}
@@ -11,7 +11,9 @@ use lib.ListN.{length}
 use lib.Ieee.{Float}
 use Rattle.explicit_black.specs.Quote.{Reply, refusal, impliedBlackVolatilityInput}
 use Rattle.xdr_sheet.specs.Xdr.{unsigned, double}
-use Rattle.xdr_sheet.specs.Sheet.{countBytes, quoteBytes, maxQuotes, priceAt, forwardAt, strikeAt, timeAt, bytesOf, Size, quotes, refused, noSheet, size, quotedAt, noQuote, quoted, replyFrom, replyAt}
+use Rattle.xdr_sheet.specs.Sheet.{countBytes, quoteBytes, maxQuotes, priceAt, forwardAt, strikeAt, timeAt, bytesOf}
+use Rattle.xdr_sheet.specs.Sheet.{Size, quotes, refused, noSheet, size, quotedAt, noQuote, quoted, replyFrom, replyAt}
+use Rattle.xdr_sheet.specs.LawsLines.{never}
 
 abbrev picked : Bool → Bool → Bool → ℕ → Size
 picked short many whole n = cond short noSheet (cond many noSheet (cond whole (quotes n) noSheet))
@@ -35,11 +37,9 @@ unfolding size
 size-short s h = rw (lt-ltb (length s) countBytes h)
 
 -- ---- a sheet of n quotes: how many there may be, and how long it is
-never : {A : Type 0} → _≡_ {A = ℕ} 0 1 → A
-never z = absurd (omega arith)
-
 sizes : (s : List ℕ) (n : ℕ) → quotes n ≡ size s → (n ≤ maxQuotes) × (length s ≡ bytesOf n)
-sizes s n e = go (ltb (length s) countBytes) (ltb maxQuotes u) (eqb (length s) (bytesOf u)) (nltb→le maxQuotes u) (eqb→eq (length s) (bytesOf u)) (e ∙ size-by s u refl)
+sizes s n e =
+    go (ltb (length s) countBytes) (ltb maxQuotes u) (eqb (length s) (bytesOf u)) (nltb→le maxQuotes u) (eqb→eq (length s) (bytesOf u)) (e ∙ size-by s u refl)
   where
     u : ℕ
     u = unsigned s 0

@@ -1,5 +1,4 @@
 -- A sheet's text, in lines and in parts of whole lines. Definitions only.
-use mathlib.Core.Path.{_≡_}
 use Prim.Native.Char.{code}
 use Prim.Native.Nat.{ℕ, zero, suc, _+_, _-_, _≤_}
 use mathlib.Core.Bool.{cond}
@@ -103,8 +102,15 @@ abbrev pub Roomy : List ℕ → Type 0
 Roomy [] = Unit
 Roomy (room ∷ rooms) = (lineBytes ≤ room) × Roomy rooms
 
--- a part is put at the start of a buffer: how many bytes, the progress after them, and the buffer afterwards, its other bytes as before
-pub record Fills (q : Part) (buffer : List ℕ) (r : Filled) (after : List ℕ) : Type 0 where
-  pub count : r .count ≡ length (q .text)
-  pub next : r .next ≡ q .next
-  pub bytes : after ≡ overlaid (q .text) buffer
+-- ---- a buffer with a part at its start: how many bytes, the progress after them, and the buffer, its other bytes as before
+pub record Filling : Type 0 where
+  pub count : ℕ
+  pub next : Progress
+  pub buffer : List ℕ
+
+abbrev pub filling : List ℕ → Part → Filling
+filling buffer q = record { count = length (q .text); next = q .next; buffer = overlaid (q .text) buffer }
+
+-- what the code hands back of it
+abbrev pub filled : Filled → List ℕ → Filling
+filled r buffer = record { count = r .count; next = r .next; buffer = buffer }

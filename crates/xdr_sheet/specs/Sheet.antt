@@ -58,7 +58,8 @@ size s =
 -- the reply of the quote that starts at `at`
 unfoldable pub replyFrom : List ℕ → ℕ → Reply
 unfolding unsigned double
-replyFrom s at = impliedBlackVolatilityInput (unsigned s at) (double s (at + priceAt)) (double s (at + forwardAt)) (double s (at + strikeAt)) (double s (at + timeAt))
+replyFrom s at =
+    impliedBlackVolatilityInput (unsigned s at) (double s (at + priceAt)) (double s (at + forwardAt)) (double s (at + strikeAt)) (double s (at + timeAt))
 
 -- the reply of the quote with i quotes before it
 abbrev pub replyAt : List ℕ → ℕ → Reply

@@ -6,7 +6,7 @@ ghost use Rattle.explicit_black.specs.Replies.{replied};
 ghost use Rattle.xdr_sheet.specs.Sheet.{maxQuotes};
 ghost use Rattle.xdr_sheet.specs.Tally.{counted};
 ghost use Rattle.xdr_sheet.specs.Text.{letter};
-ghost use Rattle.xdr_sheet.specs.Printing.{start, quoteStep, step, part, printed, Fills};
+ghost use Rattle.xdr_sheet.specs.Printing.{start, quoteStep, step, printed, part, filling, filled};
 use crate::sheet::Asked;
 use crate::sheet::Size;
 use crate::sheet::quotes_in;
@@ -105,7 +105,7 @@ pub fn next_line(sheet: &[u8], tally: Tally) -> Printed
 
 // As many whole next lines as the buffer holds, at its start.
 pub fn fill(sheet: &[u8], progress: Progress, out: &mut [u8]) -> Filled
-    ensures { λ r. ⌜ Fills (part (now (sheet .entry)) progress (length (now (out .entry)))) (now (out .entry)) r (now (out .exit)) ⌝ }
+    ensures { λ r. ⌜ filled r (now (out .exit)) ≡ filling (now (out .entry)) (part (now (sheet .entry)) progress (length (now (out .entry)))) ⌝ }
 {
     let mut count: usize = 0;
     let mut next = progress;
@@ -113,11 +113,12 @@ pub fn fill(sheet: &[u8], progress: Progress, out: &mut [u8]) -> Filled
         let Progress::Tallied(tally) = next else {
             return Filled {
                 count: count,
-                next: next,
+                next: Progress::Over,
             };
         };
         let printed = next_line(sheet, tally);
         let line = printed.line;
+        let after = printed.next;
         let Placed::Bytes(more) = place(line, &mut out[count..]) else {
             return Filled {
                 count: count,
@@ -125,6 +126,6 @@ pub fn fill(sheet: &[u8], progress: Progress, out: &mut [u8]) -> Filled
             };
         };
         count += more;
-        next = printed.next;
+        next = after;
     }
 }

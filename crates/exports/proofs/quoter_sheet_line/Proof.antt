@@ -8,14 +8,16 @@ use Rattle.exports.proofs.quoter_sheet_line.Tie as tie
 returns : tie.Need-returns
 returns c =
     let b = c .before .before in
-    let w = b .before .before .before .before in
+    let k = b .before .before in
+    let w = k .before .before in
     let n = w .before .before .before in
     let a = n .before .before .before .args in
     line-put (a .count .now) (a .text .now) (n .next-line .ensures) _ _ (sym (b .bytes .given .1) ∙ w .place .ensures .0) (w .place .ensures .1)
 
 returns-2 : tie.Need-returns-2
 returns-2 c =
-    let w = c .before .before .before .before in
+    let k = c .before .before in
+    let w = k .before .before in
     let n = w .before .before .before in
     let a = n .before .before .before .args in
     line-not-put (a .count .now) (a .text .now) (n .next-line .ensures) _ (sym (c .enum-told .given .1) ∙ w .place .ensures .0) (w .place .ensures .1)

@@ -16,15 +16,16 @@ Inv-loop sheet out₀ progress₀ out progress = length out ≡ 4096
 abbrev μ-loop : tie.MeasureT-loop
 μ-loop sheet out₀ progress₀ out progress = left sheet progress
 
+-- a turn of the loop starts, at the loop's head
+abbrev turn : tie.After-fill Inv-loop μ-loop → tie.After-enum-told Inv-loop μ-loop
+turn f = f .before .before
+
+abbrev head : tie.After-fill Inv-loop μ-loop → tie.At-loop Inv-loop μ-loop
+head f = turn f .before .before
+
 -- what was filled is within the buffer
 within : (f : tie.After-fill Inv-loop μ-loop) → f .fill .result .count ≤ length (f .fill .last .1 .1 .0)
-within f = fill-within (f .fill .ensures) (f .fill .kept .1 .1 .0)
-
-loop-holds : tie.Need-loop-holds Inv-loop μ-loop
-loop-holds c = search needs
-
-slice-aggregate-fill : tie.Need-slice-aggregate-fill Inv-loop μ-loop
-slice-aggregate-fill c = search needs
+within f = fill-within _ _ (head f .loop .out) (f .fill .result) _ (f .fill .ensures) (f .fill .kept .1 .1 .0)
 
 array-share-prefix-out : tie.Need-array-share-prefix-out Inv-loop μ-loop
 array-share-prefix-out c = within (c .before)
@@ -36,16 +37,13 @@ slice-aggregate-write-all c =
 
 loop-less : tie.Need-loop-less Inv-loop μ-loop
 loop-less c =
-    let f = c .before .before .before .before in
-    let e = f .before .before in
-    fill-falls _ (f .fill .ensures) (e .enum-told .given .1) (omega arith)
-
-loop-again : tie.Need-loop-again Inv-loop μ-loop
-loop-again c = search needs
+    let w = c .before .before in
+    let f = w .before .before in
+    fill-falls _ _ (head f .loop .out) (f .fill .result) _ (f .fill .ensures) (turn f .enum-told .given .1) (omega arith)
 
 pub print-spec : {M : Type 1} → statement M
 print-spec =
     tie.close
-    (tie.spec Inv-loop μ-loop (λ c κs. search needs) (λ c κs. search needs) loop-holds (λ c. search needs) slice-aggregate-fill
-    (λ c κs. search needs) array-share-prefix-out slice-aggregate-write-all (λ c κs. search needs) (λ c. search needs) loop-less loop-again
+    (tie.spec Inv-loop μ-loop (λ c κs. search needs) (λ c κs. search needs) (λ c. search needs) (λ c. search needs) (λ c. search needs)
+    (λ c κs. search needs) array-share-prefix-out slice-aggregate-write-all (λ c κs. search needs) (λ c. search needs) loop-less (λ c. search needs)
     (λ c. search needs) (λ c. search needs))

@@ -14,7 +14,8 @@ returns c =
 returns-2 : tie.Need-returns-2
 returns-2 c =
     let d = c .before .before in
-    let n = d .before .before .before .before in
+    let b = d .before .before in
+    let n = b .before .before in
     let a = n .before .before .args in
     with-room (a .line) (n .count .result) (a .out .now) _ (n .count .ensures .0) (omega arith) (d .copy .ensures)
 

@@ -23,7 +23,7 @@ fn print(sheet: &[u8]) {
 }
 
 fn main() {
-    // one byte more than the longest sheet, so that longer input is told from it
+    // one byte more, so that longer input is told from the longest sheet
     let mut buffer = [0u8; MAX_BYTES + 1];
     let input = read_sheet(&mut buffer);
     if input.failed {

@@ -1,18 +1,19 @@
 -- What the tests of a sheet's length and count say of its size. Assumes nothing.
-use mathlib.Core.Path.{_≡_, refl, sym, _∙_}
+use mathlib.Core.Path.{_≡_, refl, sym, ap, _∙_}
 use Prim.Native.Nat.{ℕ, _+_, _≤_, _<_}
 use mathlib.Core.Bool.{Bool, true, false, not, cond}
 use mathlib.Core.List.{List}
 use borrow.Author.Tests.{lt-ltb, le-ltb, eq-eqb, ne-eqb}
 use native.Mathlib.Nat.{lt-of-lt-of-le}
 use native.Mathlib.Omega.{arith}
-use lib.Dec.{T, ltb, eqb, ltb→lt, nltb→le, eqb→eq}
-use lib.ListN.{length}
+use lib.Dec.{T, leb, ltb, eqb, leb→le, nleb→lt, ltb→lt, nltb→le, eqb→eq}
+use lib.ListN.{length, take}
+use lib.Seq.{take-all, length-take-le}
 use lib.Ieee.{Float}
 use Rattle.explicit_black.specs.Quote.{Reply, refusal, impliedBlackVolatilityInput}
 use Rattle.xdr_sheet.specs.Xdr.{unsigned, double}
-use Rattle.xdr_sheet.specs.Sheet.{countBytes, quoteBytes, maxQuotes, priceAt, forwardAt, strikeAt, timeAt, bytesOf}
-use Rattle.xdr_sheet.specs.Sheet.{Size, quotes, refused, noSheet, size, quotedAt, noQuote, quoted, replyFrom, replyAt}
+use Rattle.xdr_sheet.specs.Sheet.{countBytes, quoteBytes, maxQuotes, priceAt, forwardAt, strikeAt, timeAt, bytesOf, inputBytes}
+use Rattle.xdr_sheet.specs.Sheet.{Size, quotes, refused, noSheet, size, quotedAt, noQuote, quoted, replyFrom, replyAt, text}
 use Rattle.xdr_sheet.specs.LawsLines.{never}
 
 abbrev picked : Bool → Bool → Bool → ℕ → Size
@@ -88,3 +89,23 @@ module _ (s : List ℕ) (n i : ℕ) (e : quotes n ≡ size s) where
       go : (b : Bool) → (T b → i < n) → quoted r ≡ cond b (quoted (replyAt s i)) noQuote → i < maxQuotes
       go true h q = lt-of-lt-of-le (h tt) (size-count s n e)
       go false h q = never (cc)
+
+-- ---- of a longer input than any sheet no byte after `inputBytes` changes the text
+long-refused : (s : List ℕ) → inputBytes ≤ length s → noSheet ≡ size s
+long-refused s h = go (ltb maxQuotes (unsigned s 0)) (ltb→lt maxQuotes (unsigned s 0)) (nltb→le maxQuotes (unsigned s 0))
+  where
+    go : (b : Bool) → (T b → maxQuotes < unsigned s 0) → (T (not b) → unsigned s 0 ≤ maxQuotes) → noSheet ≡ size s
+    go true f g = size-many s (unsigned s 0) refl (omega arith) (f tt)
+    go false f g =
+        let few : unsigned s 0 ≤ maxQuotes = g tt in
+        size-other s (unsigned s 0) refl (omega arith) few (λ e. omega arith)
+
+pub text-of-input : (s : List ℕ) → text (take inputBytes s) ≡ text s
+unfolding text
+text-of-input s = go (leb (length s) inputBytes) (leb→le (length s) inputBytes) (nleb→lt (length s) inputBytes)
+  where
+    go : (b : Bool) → (T b → length s ≤ inputBytes) → (T (not b) → inputBytes < length s) → text (take inputBytes s) ≡ text s
+    go true f g = ap text (take-all inputBytes s (f tt))
+    go false f g =
+        let long : inputBytes < length s = g tt in
+        rw (← long-refused s (omega arith), ← long-refused (take inputBytes s) (omega (arith, length-take-le inputBytes s (omega arith))))

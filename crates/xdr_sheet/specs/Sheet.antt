@@ -37,6 +37,10 @@ timeAt = 28
 abbrev pub bytesOf : ℕ → ℕ
 bytesOf n = countBytes + quoteBytes * n
 
+-- more than any sheet has: of an input no byte after so many is needed
+abbrev pub inputBytes : ℕ
+inputBytes = bytesOf maxQuotes + 1
+
 -- ---- its quotes
 
 -- how many quotes a sheet has, or the number and count of its refusal

@@ -39,6 +39,7 @@ pub struct Filled {
     pub next: Progress,
 }
 
+// Before the first line.
 pub fn start() -> Progress
     ensures { λ r. ⌜ r ≡ start ⌝ }
 {

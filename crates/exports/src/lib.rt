@@ -3,9 +3,9 @@ use explicit_black::curves::Allowance;
 use explicit_black::curves::Evaluation;
 use explicit_black::curves::SurvivalEvaluation;
 use explicit_black::quote::Reply;
-use xdr_sheet::printing::Progress;
 use xdr_sheet::sheet::Asked;
 use xdr_sheet::sheet::Size;
+use xdr_sheet::tally::Tally;
 use xdr_sheet::text::Placed;
 ghost use mathlib.Core.Path.{_≡_};
 ghost use Rattle.arithmetic.specs.Sqrt.{sqrt};
@@ -21,10 +21,8 @@ ghost use Rattle.explicit_black.specs.Curves.{inverseGaussianCdf, inverseGaussi
 ghost use Rattle.explicit_black.specs.Quote.{impliedBlackVolatilityNormalised, impliedBlackVolatilityInput};
 ghost use Rattle.explicit_black.specs.Replies.{replied};
 ghost use Rattle.xdr_sheet.specs.Sheet.{size, quotedAt};
-ghost use Rattle.xdr_sheet.specs.Lines.{placed, appended};
-ghost use Rattle.xdr_sheet.specs.Printing.{nextLine};
-ghost use Rattle.xdr_sheet.specs.declared.printing.Progress.the-variants.{Tally};
-ghost use Rattle.exports.specs.Handed.{handed, handing, handingOf, counting, countingOf, bytesOf};
+ghost use Rattle.xdr_sheet.specs.Printing.{step};
+ghost use Rattle.exports.specs.Handed.{handed, handing, handingOf, counting, countingOf, lined, lining};
 
 #[no_mangle]
 pub extern "C" fn quoter_sqrt(x: f64) -> f64
@@ -231,11 +229,14 @@ pub extern "C" fn quoter_sheet_size(sheet: &[u8], quotes: &mut u32) -> u32
             *quotes = n;
             0
         }
-        Size::Refused => 10,
+        Size::Refusal { number, count: _ } => number,
     }
 }
 
-// The quote of a sheet with `index` quotes before it; 10 where there is none.
+// No number of a refusal: an accepted sheet has no such quote.
+const NO_QUOTE: u32 = 0xffff_ffff;
+
+// The quote of a sheet with `index` quotes before it; 10 for each of a refused sheet.
 #[no_mangle]
 pub extern "C" fn quoter_sheet_quote(
     sheet: &[u8],
@@ -244,37 +245,39 @@ pub extern "C" fn quoter_sheet_quote(
     volatility: &mut f64,
     count: &mut u64,
 ) -> u32
-    ensures { λ r. ⌜ handed r (now (total .exit)) (now (volatility .exit)) (now (count .exit)) ≡ handingOf (now (total .entry)) (now (volatility .entry)) (quotedAt (now (sheet .entry)) index) ⌝ }
+    ensures { λ r. ⌜ handed r (now (total .exit)) (now (volatility .exit)) (now (count .exit))
+        ≡ handingOf (now (total .entry)) (now (volatility .entry)) (now (count .entry)) (quotedAt (now (sheet .entry)) index) ⌝ }
 {
     match xdr_sheet::sheet::reply(sheet, index) {
         Asked::Replied(reply) => hand(reply, total, volatility, count),
-        Asked::Nothing => {
-            *count = 0;
-            10
-        }
+        Asked::Nothing => NO_QUOTE,
     }
 }
 
-// Writes the line that comes after so many answers and refusals to the start of `text`, and says how
-// many bytes it has: 0 where `text` has no room for it.
+// The line that comes after so many answers and refusals, put at the start of `text`: its letter, V, R,
+// T or S in ASCII, with how many bytes it has; or 0 where `text` has no room for it.
 #[no_mangle]
 pub extern "C" fn quoter_sheet_line(
     sheet: &[u8],
     answers: u32,
     refusals: u32,
     text: &mut [u8],
-) -> usize
-    ensures { λ r. ⌜ r ≡ bytesOf (placed (nextLine (now (sheet .entry)) (Tally answers refusals)) 0 (now (text .entry))) ⌝ }
-    ensures { λ _. ⌜ now (text .exit) ≡ appended (nextLine (now (sheet .entry)) (Tally answers refusals)) 0 (now (text .entry)) ⌝ }
+    count: &mut u64,
+) -> u32
+    ensures { λ r. ⌜ lined r (now (count .exit)) (now (text .exit))
+        ≡ lining (now (count .entry)) (now (text .entry)) (step (now (sheet .entry)) (record { answers = answers; refusals = refusals })) ⌝ }
 {
-    let progress = Progress::Tally {
+    let tally = Tally {
         answers: answers,
         refusals: refusals,
     };
-    let printed = xdr_sheet::printing::next_line(sheet, progress);
+    let printed = xdr_sheet::printing::next_line(sheet, tally);
     let line = printed.line;
-    match xdr_sheet::text::append(line, text, 0) {
-        Placed::At(next) => next,
-        Placed::Full => 0,
+    match xdr_sheet::text::place(line, text) {
+        Placed::Bytes(bytes) => {
+            *count = bytes as u64;
+            printed.letter as u32
+        }
+        Placed::NoRoom => 0,
     }
 }

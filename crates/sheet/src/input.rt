@@ -1,6 +1,7 @@
 // Standard input, to its end or as much of it as a buffer holds.
 ghost use Prim.Native.Nat.{_≤_};
 ghost use lib.ListN.{length};
+ghost use Rattle.xdr_sheet.specs.Sheet.{inputBytes};
 
 // How many bytes were read, or that a read failed.
 pub struct Input {
@@ -19,7 +20,9 @@ fn read_some(part: &mut [u8]) -> Input
     }
 }
 
+// The buffer holds more than any sheet, so that what it cannot hold changes nothing.
 pub fn read_sheet(buffer: &mut [u8]) -> Input
+    requires { ⌜ inputBytes ≤ length (now buffer) ⌝ }
     ensures { λ r. ⌜ r .count ≤ length (now (buffer .exit)) ⌝ }
 {
     let mut count: usize = 0;

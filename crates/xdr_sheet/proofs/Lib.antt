@@ -1,3 +1,3 @@
+mod Filling
 mod Patterns
-mod Steps
 mod Texts

@@ -3,23 +3,25 @@ use mathlib.Core.Path.{_≡_, refl, sym, ap, _∙_, subst}
 use mathlib.Core.List.{List, [], _∷_, _++_, map, append-assoc, append-nil}
 use Prim.Native.Nat.{ℕ, zero, suc, _+_, _-_, _*_, _/_, _^_, _≤_, _<_}
 use native.Mathlib.Numerals.{add-one}
-use native.Mathlib.Nat.{pow-suc, lt-of-lt-of-le, lt-of-not-le, not-le-of-lt, le-of-suc-le-suc, not-suc-le-zero, lt-irrefl, le-antisymm, le-trans, div-lt-iff-lt-mul, le-div-iff-mul-le, pow-le-pow-right}
+use native.Mathlib.Nat.{lt-of-lt-of-le, lt-of-not-le, not-le-of-lt, le-of-suc-le-suc, not-suc-le-zero, lt-irrefl, le-antisymm, le-trans}
+use native.Mathlib.Nat.{pow-suc, div-lt-iff-lt-mul, le-div-iff-mul-le, pow-le-pow-right}
 use native.Mathlib.Omega.{arith}
 use mathlib.Core.Bool.{Bool, true, false, not, cond}
 use borrow.Author.Tests.{lt-leb, le-leb}
 use lib.Dec.{T, ltb, ltb→lt, nltb→le, lit<, lit≤}
 use lib.Ieee.{Float, binary64, toBits}
 use lib.ListN.{length, take, drop, set, getD, length-append, length-map}
-use lib.Seq.{paste, take-suc-set, take-suc, take-all, length-take-le}
+use lib.Seq.{take-suc-set, take-suc, take-all, drop-cons, append-snoc, set-at, length-front, length-take-le}
 use Rattle.explicit_black.specs.declared.quote.Reply.{Reply as Handed}
 use Rattle.explicit_black.specs.declared.quote.Reply.the-variants.{Answer, Refusal}
 use Rattle.explicit_black.specs.Replies.{replied}
 use Rattle.io.specs.Digits.{digits, Fewest}
 use Rattle.xdr_sheet.specs.declared.text.Line.{Line}
 use Rattle.xdr_sheet.specs.declared.text.Placed.{Placed}
-use Rattle.xdr_sheet.specs.declared.text.Placed.the-variants.{At, Full}
+use Rattle.xdr_sheet.specs.declared.text.Placed.the-variants.{Bytes, NoRoom}
 use Rattle.xdr_sheet.specs.Text.{places, decimal, hexadecimal, answerFields, refusalFields, line}
-use Rattle.xdr_sheet.specs.Lines.{written, Extended, placed, appended}
+use Rattle.xdr_sheet.specs.Lines.{written, Extended, placed, placing}
+use Rattle.xdr_sheet.specs.LawsLines.{few-places}
 
 -- ---- lines
 pub same-line : (l : Line) → Extended l [] l
@@ -72,7 +74,8 @@ take-written l = go (l .length) (l .bytes)
     go (suc n) (x ∷ s) = ap (λ (r : List ℕ). x ∷ r) (go n s)
 
 -- one byte more
-pub one-more : (l r : Line) (b : ℕ) → l .length < length (l .bytes) → r .bytes ≡ set (l .bytes) (l .length) b → r .length ≡ l .length + 1 → Extended l (b ∷ []) r
+pub one-more : (l r : Line) (b : ℕ)
+    → l .length < length (l .bytes) → r .bytes ≡ set (l .bytes) (l .length) b → r .length ≡ l .length + 1 → Extended l (b ∷ []) r
 one-more l r b h e n = record {
   text = ap (λ (k : ℕ). take k (r .bytes)) (n ∙ add-one (l .length)) ∙ ap (take (suc (l .length))) e ∙ take-suc-set (l .bytes) (l .length) b h;
   count = n;
@@ -86,26 +89,35 @@ unfolding line
 answer-line number p q count e h g i j k = from-empty e (h then g) ∙ rw (i, j, k)
 
 pub refusal-line : (number reason count : ℕ) {a b r : Line} {reply : Handed}
-    → written a ≡ [] → Extended a (decimal number) b → Extended b (refusalFields reason count) r → reply ≡ Refusal reason count → written r ≡ line number (replied reply)
+    → written a ≡ [] → Extended a (decimal number) b → Extended b (refusalFields reason count) r
+    → reply ≡ Refusal reason count → written r ≡ line number (replied reply)
 unfolding line
 refusal-line number reason count e h g i = from-empty e (h then g) ∙ rw i
 
--- ---- a text in a buffer
-abbrev Appends : List ℕ → ℕ → List ℕ → List ℕ → Placed → Type 0
-Appends text at before after r = (r ≡ placed text at before) × (after ≡ appended text at before)
+-- ---- a text at the start of a buffer
+abbrev Places : List ℕ → List ℕ → List ℕ → Placed → Type 0
+Places text buffer after r = (r ≡ placed text buffer) × (after ≡ placing text buffer)
 
-pub no-room : (text : List ℕ) (at : ℕ) (before : List ℕ) → length before < at + length text → Appends text at before before Full
-unfolding placed appended
-no-room text at before h = rw (lt-leb (at + length text) (length before) h) (refl, refl)
+pub no-room : (text buffer : List ℕ) → length buffer < length text → Places text buffer buffer NoRoom
+unfolding placed placing
+no-room text buffer h = rw (lt-leb (length text) (length buffer) h) (refl, refl)
 
-pub with-room : (l : Line) (n at : ℕ) (before after : List ℕ) → n ≡ length (written l) → at + n ≤ length before → after ≡ paste before at (l .bytes) n → Appends (written l) at before after (At (at + n))
-unfolding placed appended
-with-room l n at before after e h p =
-    let g : at + length (written l) ≤ length before = omega arith in
-    rw (le-leb (at + length (written l)) (length before) g) (
-      ap (λ (k : ℕ). At (at + k)) e,
-      p ∙ ap (paste before at (l .bytes)) e ∙ ap (λ (t : List ℕ). take at before ++ t ++ drop (at + length (written l)) before) (take-written l),
-    )
+pub with-room : (l : Line) (n : ℕ) (buffer after : List ℕ)
+    → n ≡ length (written l) → n ≤ length buffer → after ≡ take n (l .bytes) ++ drop n buffer → Places (written l) buffer after (Bytes n)
+unfolding placed placing
+with-room l n buffer after e h p =
+    let g : length (written l) ≤ length buffer = omega arith in
+    rw (le-leb (length (written l)) (length buffer) g) (ap Bytes e, p ∙ rw (e, take-written l))
+
+-- a buffer whose first bytes are replaced, and one byte more
+pub kept-length : (s d : List ℕ) (i : ℕ) → i ≤ length s → i ≤ length d → length (take i s ++ drop i d) ≡ length d
+kept-length s d i h g = length-front d (take i s) i (length-take-le i s h ∙ sym (length-take-le i d g))
+
+pub copied : (s d : List ℕ) (i : ℕ) → i < length s → i < length d → set (take i s ++ drop i d) i (getD s i 0) ≡ take (i + 1) s ++ drop (i + 1) d
+copied s d i h g =
+    rw (add-one i, take-suc s i 0, drop-cons d i 0)
+    (set-at (take i s) (getD d i 0) (drop (suc i) d) (getD s i 0) i (length-take-le i s (omega arith))
+    ∙ sym (append-snoc (take i s) (getD s i 0) (drop (suc i) d)))
 
 -- ---- how many digits
 less-one : (k : ℕ) → suc k - 1 ≡ k
@@ -118,7 +130,9 @@ few : (n k : ℕ) → n < 10 → Fewest 10 1 n k → 1 ≡ k
 few n zero h f = absurd (not-suc-le-zero (f .0))
 few n (suc zero) h f = refl
 few n (suc (suc k)) h f =
-    absurd (not-le-of-lt h (le-trans (pow-le-pow-right {n = 10} (lit< tt) (le-of-suc-le-suc (more k))) (subst (λ (x : ℕ). 10 ^ x ≤ n) (less-one (suc k)) (f .2 (more k)))))
+    absurd
+    (not-le-of-lt h (le-trans (pow-le-pow-right {n = 10} (lit< tt) (le-of-suc-le-suc (more k)))
+    (subst (λ (x : ℕ). 10 ^ x ≤ n) (less-one (suc k)) (f .2 (more k)))))
 
 -- one digit less of the number
 tenth : (n k : ℕ) → 10 ≤ n → Fewest 10 1 n (suc (suc k)) → Fewest 10 1 (n / 10) (suc k)
@@ -143,18 +157,10 @@ places-is (suc f) n k h g = go (ltb n 10) (ltb→lt n 10) (nltb→le n 10)
     many (suc zero) l g r = absurd (not-le-of-lt (g .1) l)
     many (suc (suc k)) l g r = ap suc (r (suc k) (tenth n k l g))
 
-    go : (b : Bool) → (T b → n < 10) → (T (not b) → 10 ≤ n) → ((j : ℕ) → Fewest 10 1 (n / 10) j → places f (n / 10) ≡ j) → cond b 1 (suc (places f (n / 10))) ≡ k
+    go : (b : Bool) → (T b → n < 10) → (T (not b) → 10 ≤ n)
+        → ((j : ℕ) → Fewest 10 1 (n / 10) j → places f (n / 10) ≡ j) → cond b 1 (suc (places f (n / 10))) ≡ k
     go true a b r = few n k (a tt) g
     go false a b r = many k (b tt) g r
-
-few-places : (f n : ℕ) → places f n ≤ suc f
-unfolding places
-few-places zero n = lit≤ tt
-few-places (suc f) n = go (ltb n 10) (few-places f (n / 10))
-  where
-    go : (b : Bool) → places f (n / 10) ≤ suc f → cond b 1 (suc (places f (n / 10))) ≤ suc (suc f)
-    go true h = omega arith
-    go false h = omega arith
 
 pub places-le : (n k : ℕ) → n < 2 ^ 64 → Fewest 10 1 n k → k ≤ 20
 places-le n k h f = subst (λ (x : ℕ). x ≤ 20) (places-is 19 n k (lt-of-lt-of-le h (lit≤ tt)) f) (few-places 19 n)
@@ -165,7 +171,8 @@ unfolding decimal
 decimal-is n k h f = ap (λ (x : ℕ). digits 10 x n) (sym (places-is 19 n k (lt-of-lt-of-le h (lit≤ tt)) f))
 
 pub sixteen : (n k : ℕ) → n < 2 ^ 64 → Fewest 16 16 n k → k ≡ 16
-sixteen n k h f = le-antisymm (le-of-suc-le-suc (lt-of-not-le (λ (g : 17 ≤ k). not-le-of-lt h (le-trans (pow-le-pow-right {n = 16} (lit< tt) (less k g)) (f .2 g))))) (f .0)
+sixteen n k h f =
+    le-antisymm (le-of-suc-le-suc (lt-of-not-le (λ (g : 17 ≤ k). not-le-of-lt h (le-trans (pow-le-pow-right {n = 16} (lit< tt) (less k g)) (f .2 g))))) (f .0)
   where
     less : (k : ℕ) → 17 ≤ k → 16 ≤ k - 1
     less k g = omega arith

@@ -1,9 +1,11 @@
 pub mod Xdr
+pub mod Tally
 pub mod Text
 pub mod Sheet
 pub mod Replies
 pub mod Lines
 pub mod Printing
+pub mod Examples
 pub mod LawsSheet
 pub mod LawsLines
 pub mod LawsPrinting

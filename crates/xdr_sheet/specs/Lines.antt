@@ -7,7 +7,7 @@ use lib.Dec.{leb}
 use lib.ListN.{length, take, drop}
 use Rattle.xdr_sheet.specs.declared.text.Line.{Line}
 use Rattle.xdr_sheet.specs.declared.text.Placed.{Placed}
-use Rattle.xdr_sheet.specs.declared.text.Placed.the-variants.{At, Full}
+use Rattle.xdr_sheet.specs.declared.text.Placed.the-variants.{Bytes, NoRoom}
 
 -- the text of a line
 abbrev pub written : Line → List ℕ
@@ -18,12 +18,17 @@ pub record Extended (l : Line) (more : List ℕ) (r : Line) : Type 0 where
   pub text : written r ≡ written l ++ more
   pub count : r .length ≡ l .length + length more
 
--- a text goes into a buffer from `at` on, if it fits there: where the next one goes, and the buffer afterwards, its other bytes as before
-abbrev pub hasRoom : List ℕ → ℕ → List ℕ → Bool
-hasRoom text at buffer = leb (at + length text) (length buffer)
+-- whether a text goes into so many bytes
+abbrev pub fitsInto : List ℕ → ℕ → Bool
+fitsInto text room = leb (length text) room
 
-unfoldable pub placed : List ℕ → ℕ → List ℕ → Placed
-placed text at buffer = cond (hasRoom text at buffer) (At (at + length text)) Full
+-- a buffer with a text at its start, its other bytes as before
+abbrev pub overlaid : List ℕ → List ℕ → List ℕ
+overlaid text buffer = text ++ drop (length text) buffer
 
-unfoldable pub appended : List ℕ → ℕ → List ℕ → List ℕ
-appended text at buffer = cond (hasRoom text at buffer) (take at buffer ++ text ++ drop (at + length text) buffer) buffer
+-- a text is put there if it fits: how many bytes, and the buffer afterwards
+unfoldable pub placed : List ℕ → List ℕ → Placed
+placed text buffer = cond (fitsInto text (length buffer)) (Bytes (length text)) NoRoom
+
+unfoldable pub placing : List ℕ → List ℕ → List ℕ
+placing text buffer = cond (fitsInto text (length buffer)) (overlaid text buffer) buffer

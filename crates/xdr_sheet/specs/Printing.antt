@@ -1,43 +1,116 @@
--- A sheet's text, a line at a time. Definitions only.
-use Prim.Native.Nat.{ℕ, zero, suc, _+_}
-use mathlib.Core.List.{List, [], _++_}
-use Rattle.explicit_black.specs.Quote.{Reply, answer, refusal}
-use Rattle.xdr_sheet.specs.Text.{line, closing, refusedSheet}
-use Rattle.xdr_sheet.specs.Sheet.{Size, quotes, refused, size, Quoted, quoted, noQuote, quotedAt}
+-- A sheet's text, in lines and in parts of whole lines. Definitions only.
+use Prim.Native.Char.{code}
+use Prim.Native.Nat.{ℕ, zero, suc, _+_, _-_, _≤_}
+use mathlib.Core.Bool.{cond}
+use mathlib.Core.List.{List, [], _∷_, _++_}
+use lib.ListN.{length}
+use Rattle.explicit_black.specs.Quote.{Reply}
+use Rattle.xdr_sheet.specs.Tally.{emptyTally, tallied, counted}
+use Rattle.xdr_sheet.specs.Text.{lineBytes, line, letter, closing, refusedSheet}
+use Rattle.xdr_sheet.specs.Sheet.{Size, quotes, refused, size, replyAt, Quoted, quoted, noQuote, quotedAt}
+use Rattle.xdr_sheet.specs.Lines.{written, fitsInto, overlaid}
+use Rattle.xdr_sheet.specs.declared.tally.Tally.{Tally}
 use Rattle.xdr_sheet.specs.declared.printing.Progress.{Progress}
-use Rattle.xdr_sheet.specs.declared.printing.Progress.the-variants.{Tally, Over}
+use Rattle.xdr_sheet.specs.declared.printing.Progress.the-variants.{Tallied, Over}
+use Rattle.xdr_sheet.specs.declared.printing.Printed.{Printed}
+use Rattle.xdr_sheet.specs.declared.printing.Filled.{Filled}
 
--- after those of the quotes: the tallies, or that the sheet is refused
-abbrev pub lastOf : ℕ → ℕ → Size → List ℕ
-lastOf answers refusals (quotes n) = closing answers refusals
-lastOf answers refusals refused = refusedSheet
+-- no quote's line is printed
+abbrev pub start : Progress
+start = Tallied emptyTally
 
--- one quote more
-abbrev pub tallied : ℕ → ℕ → Reply → Progress
-tallied answers refusals (answer total volatility count) = Tally (answers + 1) refusals
-tallied answers refusals (refusal number count) = Tally answers (refusals + 1)
+-- ---- a line: its text, its letter, and the progress after it
+pub record Step : Type 0 where
+  pub text : List ℕ
+  pub letter : ℕ
+  pub next : Progress
 
--- the line of the quote with as many before it as are tallied, or the last line; and what is tallied then
-abbrev pub lineFor : List ℕ → ℕ → ℕ → Quoted → List ℕ
-lineFor s answers refusals (quoted r) = line (answers + refusals + 1) r
-lineFor s answers refusals noQuote = lastOf answers refusals (size s)
+-- that of a quote, after those tallied; the last, with the tallies; that of a refused sheet
+abbrev pub quoteStep : Tally → Reply → Step
+quoteStep t r = record { text = line (counted t + 1) r; letter = letter r; next = Tallied (tallied t r) }
 
-abbrev pub tallyFor : ℕ → ℕ → Quoted → Progress
-tallyFor answers refusals (quoted r) = tallied answers refusals r
-tallyFor answers refusals noQuote = Over
+abbrev pub lastStep : Tally → Step
+lastStep t = record { text = closing t; letter = code "T"; next = Over }
 
-unfoldable pub nextLine : List ℕ → Progress → List ℕ
-unfolding quotedAt line closing size
-nextLine s (Tally answers refusals) = lineFor s answers refusals (quotedAt s (answers + refusals))
-nextLine s Over = []
+abbrev pub refusedStep : ℕ → Step
+refusedStep number = record { text = refusedSheet number; letter = code "S"; next = Over }
 
-unfoldable pub following : List ℕ → Progress → Progress
-unfolding quotedAt
-following s (Tally answers refusals) = tallyFor answers refusals (quotedAt s (answers + refusals))
-following s Over = Over
+-- the line after those of the quotes tallied
+abbrev pub stepAt : Tally → Quoted → Step
+stepAt t (quoted r) = quoteStep t r
+stepAt t noQuote = lastStep t
 
--- k lines in a row
-unfoldable pub printing : ℕ → List ℕ → Progress → List ℕ
-unfolding nextLine following
-printing zero s p = []
-printing (suc k) s p = nextLine s p ++ printing k s (following s p)
+abbrev pub stepOf : List ℕ → Tally → Size → Step
+stepOf s t (quotes n) = stepAt t (quotedAt s (counted t))
+stepOf s t (refused number count) = refusedStep number
+
+unfoldable pub step : List ℕ → Tally → Step
+unfolding size quotedAt line closing refusedSheet
+step s t = stepOf s t (size s)
+
+-- what the code hands back of a line
+abbrev pub printed : Printed → Step
+printed r = record { text = written (r .line); letter = r .letter; next = r .next }
+
+-- ---- all lines that are still to come: of m quotes and the last, or of a refused sheet
+unfoldable pub upcoming : List ℕ → Tally → ℕ → List Step
+upcoming s t zero = lastStep t ∷ []
+upcoming s t (suc m) = quoteStep t (replyAt s (counted t)) ∷ upcoming s (tallied t (replyAt s (counted t))) m
+
+abbrev pub restOf : List ℕ → Tally → Size → List Step
+restOf s t (quotes n) = upcoming s t (n - counted t)
+restOf s t (refused number count) = refusedStep number ∷ []
+
+unfoldable pub rest : List ℕ → Progress → List Step
+unfolding size upcoming
+rest s (Tallied t) = restOf s t (size s)
+rest s Over = []
+
+-- how many: 0 where it is over
+abbrev pub left : List ℕ → Progress → ℕ
+left s p = length (rest s p)
+
+-- ---- a part: as many whole lines as go into so many bytes, and the progress after them
+pub record Part : Type 0 where
+  pub text : List ℕ
+  pub next : Progress
+
+abbrev pub noPart : Progress → Part
+noPart p = record { text = []; next = p }
+
+infixr 20 _before_
+abbrev pub _before_ : List ℕ → Part → Part
+text before q = record { text = text ++ q .text; next = q .next }
+
+-- of the lines that come after p
+unfoldable pub partOf : ℕ → Progress → List Step → Part
+partOf room p [] = noPart p
+partOf room p (l ∷ ls) = cond (fitsInto (l .text) room) (l .text before partOf (room - length (l .text)) (l .next) ls) (noPart p)
+
+unfoldable pub part : List ℕ → Progress → ℕ → Part
+unfolding partOf rest
+part s p room = partOf room p (rest s p)
+
+-- a part for each of some buffers in turn, of which the lengths are given
+unfoldable pub parts : List ℕ → Progress → List ℕ → Part
+unfolding part
+parts s p [] = noPart p
+parts s p (room ∷ rooms) = part s p room .text before parts s (part s p room .next) rooms
+
+-- each of them holds the longest line
+abbrev pub Roomy : List ℕ → Type 0
+Roomy [] = Unit
+Roomy (room ∷ rooms) = (lineBytes ≤ room) × Roomy rooms
+
+-- ---- a buffer with a part at its start: how many bytes, the progress after them, and the buffer, its other bytes as before
+pub record Filling : Type 0 where
+  pub count : ℕ
+  pub next : Progress
+  pub buffer : List ℕ
+
+abbrev pub filling : List ℕ → Part → Filling
+filling buffer q = record { count = length (q .text); next = q .next; buffer = overlaid (q .text) buffer }
+
+-- what the code hands back of it
+abbrev pub filled : Filled → List ℕ → Filling
+filled r buffer = record { count = r .count; next = r .next; buffer = buffer }

@@ -4,75 +4,102 @@ use mathlib.Core.Bool.{cond}
 use mathlib.Core.List.{List, [], _++_}
 use lib.Dec.{ltb, eqb}
 use lib.ListN.{length}
-use Rattle.explicit_black.specs.Quote.{Reply, answer, refusal, impliedBlackVolatilityInput}
+use Rattle.explicit_black.specs.Quote.{Reply, refusal, impliedBlackVolatilityInput}
 use Rattle.xdr_sheet.specs.Xdr.{unsigned, double}
+use Rattle.xdr_sheet.specs.Tally.{emptyTally, tallied}
 use Rattle.xdr_sheet.specs.Text.{line, closing, refusedSheet}
+use Rattle.xdr_sheet.specs.declared.tally.Tally.{Tally}
 
--- how many quotes a sheet has, or that it is refused with number 10
+-- ---- the format
+abbrev pub countBytes : ℕ
+countBytes = 4
+
+abbrev pub quoteBytes : ℕ
+quoteBytes = 36
+
+abbrev pub maxQuotes : ℕ
+maxQuotes = 1000
+
+-- where the figures of a quote start, after its side
+abbrev pub priceAt : ℕ
+priceAt = 4
+
+abbrev pub forwardAt : ℕ
+forwardAt = 12
+
+abbrev pub strikeAt : ℕ
+strikeAt = 20
+
+abbrev pub timeAt : ℕ
+timeAt = 28
+
+-- the bytes of a sheet of n quotes; past so many starts the quote with n before it
+abbrev pub bytesOf : ℕ → ℕ
+bytesOf n = countBytes + quoteBytes * n
+
+-- more than any sheet has: of an input no byte after so many is needed
+abbrev pub inputBytes : ℕ
+inputBytes = bytesOf maxQuotes + 1
+
+-- ---- its quotes
+
+-- how many quotes a sheet has, or the number and count of its refusal
 pub data Size : Type 0 where
   quotes : ℕ → Size
-  refused : Size
+  refused : ℕ → ℕ → Size
 
--- under 4 bytes, a count over 1,000, or a length that is not 4 + 36 times the count
+abbrev pub noSheet : Size
+noSheet = refused 10 0
+
+-- too short for a count, too many quotes, or not as long as their count says
 unfoldable pub size : List ℕ → Size
 unfolding unsigned
 size s =
-    cond (ltb (length s) 4) refused
-    (cond (ltb 1000 (unsigned s 0)) refused
-    (cond (eqb (length s) (4 + 36 * unsigned s 0)) (quotes (unsigned s 0)) refused))
+    cond (ltb (length s) countBytes) noSheet
+    (cond (ltb maxQuotes (unsigned s 0)) noSheet
+    (cond (eqb (length s) (bytesOf (unsigned s 0))) (quotes (unsigned s 0)) noSheet))
 
--- the reply of the quote whose 36 bytes start at `at`
+-- the reply of the quote that starts at `at`
 unfoldable pub replyFrom : List ℕ → ℕ → Reply
 unfolding unsigned double
-replyFrom s at = impliedBlackVolatilityInput (unsigned s at) (double s (at + 4)) (double s (at + 12)) (double s (at + 20)) (double s (at + 28))
+replyFrom s at =
+    impliedBlackVolatilityInput (unsigned s at) (double s (at + priceAt)) (double s (at + forwardAt)) (double s (at + strikeAt)) (double s (at + timeAt))
 
 -- the reply of the quote with i quotes before it
 abbrev pub replyAt : List ℕ → ℕ → Reply
-replyAt s i = replyFrom s (4 + 36 * i)
+replyAt s i = replyFrom s (bytesOf i)
 
--- what is asked of a quote that the sheet may not have
+-- what is asked of a quote that the sheet may not have; each quote of a refused sheet is refused as it is
 pub data Quoted : Type 0 where
   quoted : Reply → Quoted
   noQuote : Quoted
 
 abbrev pub quotedOf : List ℕ → ℕ → Size → Quoted
-quotedOf s i refused = noQuote
 quotedOf s i (quotes n) = cond (ltb i n) (quoted (replyAt s i)) noQuote
+quotedOf s i (refused number count) = quoted (refusal number count)
 
 unfoldable pub quotedAt : List ℕ → ℕ → Quoted
 unfolding size replyFrom
 quotedAt s i = quotedOf s i (size s)
 
--- one for an answer, one for a refusal
-abbrev pub answered : Reply → ℕ
-answered (answer total volatility count) = 1
-answered (refusal reason count) = 0
+-- ---- its text
 
-abbrev pub declined : Reply → ℕ
-declined (answer total volatility count) = 0
-declined (refusal reason count) = 1
-
--- of the first n quotes: the lines, how many are answered, how many refused
+-- of the first n quotes: the lines, and how many are answered and refused
 unfoldable pub lines : List ℕ → ℕ → List ℕ
 unfolding line replyFrom
 lines s zero = []
 lines s (suc n) = lines s n ++ line (suc n) (replyAt s n)
 
-unfoldable pub answers : List ℕ → ℕ → ℕ
+unfoldable pub tally : List ℕ → ℕ → Tally
 unfolding replyFrom
-answers s zero = 0
-answers s (suc n) = answers s n + answered (replyAt s n)
-
-unfoldable pub refusals : List ℕ → ℕ → ℕ
-unfolding replyFrom
-refusals s zero = 0
-refusals s (suc n) = refusals s n + declined (replyAt s n)
+tally s zero = emptyTally
+tally s (suc n) = tallied (tally s n) (replyAt s n)
 
 -- all that is printed of a sheet
 abbrev pub textOf : List ℕ → Size → List ℕ
-textOf s refused = refusedSheet
-textOf s (quotes n) = lines s n ++ closing (answers s n) (refusals s n)
+textOf s (quotes n) = lines s n ++ closing (tally s n)
+textOf s (refused number count) = refusedSheet number
 
 unfoldable pub text : List ℕ → List ℕ
-unfolding size lines answers refusals closing
+unfolding size lines tally closing refusedSheet
 text s = textOf s (size s)

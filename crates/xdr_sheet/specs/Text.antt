@@ -1,11 +1,29 @@
 -- Numbers and the lines of a sheet's answers as ASCII text. Definitions only.
 use Prim.Native.Nat.{ℕ, zero, suc, _/_}
+use Prim.Native.Char.{code}
+use Prim.Native.String.{String, [] as none, _∷_ as _before_}
 use mathlib.Core.Bool.{cond}
 use mathlib.Core.List.{List, [], _∷_, _++_}
 use lib.Dec.{ltb}
 use lib.Ieee.{binary64, toBits}
 use Rattle.io.specs.Digits.{digits}
 use Rattle.explicit_black.specs.Quote.{Reply, answer, refusal}
+use Rattle.xdr_sheet.specs.declared.tally.Tally.{Tally}
+
+-- the bytes of a quoted text
+abbrev pub ascii : String → List ℕ
+ascii none = []
+ascii (c before s) = code c ∷ ascii s
+
+-- no number here has more digits, and no line more bytes
+abbrev pub decimalDigits : ℕ
+decimalDigits = 20
+
+abbrev pub hexadecimalDigits : ℕ
+hexadecimalDigits = 16
+
+abbrev pub lineBytes : ℕ
+lineBytes = 80
 
 -- how many decimal digits n has, at most k + 1: one for 0
 unfoldable pub places : ℕ → ℕ → ℕ
@@ -19,49 +37,34 @@ decimal n = digits 10 (places 19 n) n
 
 -- the 16 hexadecimal digits of a pattern, in lower case
 unfoldable pub hexadecimal : ℕ → List ℕ
-hexadecimal b = digits 16 16 b
-
--- a space, the end of a line, and the letters R, S, T, V
-abbrev pub space : ℕ
-space = 32
-
-abbrev pub newline : ℕ
-newline = 10
-
-abbrev pub letterR : ℕ
-letterR = 82
-
-abbrev pub letterS : ℕ
-letterS = 83
-
-abbrev pub letterT : ℕ
-letterT = 84
-
-abbrev pub letterV : ℕ
-letterV = 86
+hexadecimal b = digits 16 hexadecimalDigits b
 
 -- after the number of a quote: `V`, the patterns of total and volatility, and count
 unfoldable pub answerFields : ℕ → ℕ → ℕ → List ℕ
 unfolding decimal hexadecimal
-answerFields total volatility count =
-    (space ∷ letterV ∷ space ∷ []) ++ hexadecimal total ++ (space ∷ []) ++ hexadecimal volatility ++ (space ∷ []) ++ decimal count ++ (newline ∷ [])
+answerFields total volatility count = ascii " V " ++ hexadecimal total ++ ascii " " ++ hexadecimal volatility ++ ascii " " ++ decimal count ++ ascii "\n"
 
 -- or `R`, refusal and count
 unfoldable pub refusalFields : ℕ → ℕ → List ℕ
 unfolding decimal
-refusalFields reason count = (space ∷ letterR ∷ space ∷ []) ++ decimal reason ++ (space ∷ []) ++ decimal count ++ (newline ∷ [])
+refusalFields reason count = ascii " R " ++ decimal reason ++ ascii " " ++ decimal count ++ ascii "\n"
 
--- the line of a quote with its number
+-- the line of a quote with its number, and its letter
 unfoldable pub line : ℕ → Reply → List ℕ
 unfolding decimal answerFields refusalFields toBits
 line number (answer total volatility count) = decimal number ++ answerFields (toBits binary64 total) (toBits binary64 volatility) count
 line number (refusal reason count) = decimal number ++ refusalFields reason count
 
--- the last line: `T`, answers, refusals
-unfoldable pub closing : ℕ → ℕ → List ℕ
-unfolding decimal
-closing answers refusals = (letterT ∷ space ∷ []) ++ decimal answers ++ (space ∷ []) ++ decimal refusals ++ (newline ∷ [])
+abbrev pub letter : Reply → ℕ
+letter (answer total volatility count) = code "V"
+letter (refusal reason count) = code "R"
 
--- a refused sheet: `S 10`
-abbrev pub refusedSheet : List ℕ
-refusedSheet = letterS ∷ space ∷ 49 ∷ 48 ∷ newline ∷ []
+-- the last line: `T`, answers, refusals
+unfoldable pub closing : Tally → List ℕ
+unfolding decimal
+closing t = ascii "T " ++ decimal (t .answers) ++ ascii " " ++ decimal (t .refusals) ++ ascii "\n"
+
+-- a refused sheet: `S` and the number
+unfoldable pub refusedSheet : ℕ → List ℕ
+unfolding decimal
+refusedSheet number = ascii "S " ++ decimal number ++ ascii "\n"

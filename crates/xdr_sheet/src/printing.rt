@@ -1,97 +1,132 @@
-// The text of a sheet's answers, a line at a time.
+// The text of a sheet's answers: a line at a time, and as many lines as a buffer holds.
 ghost use mathlib.Core.Path.{_≡_};
-ghost use Prim.Native.Nat.{_+_, _<_};
+ghost use Prim.Native.Nat.{_<_};
+ghost use lib.ListN.{length};
 ghost use Rattle.explicit_black.specs.Replies.{replied};
-ghost use Rattle.xdr_sheet.specs.Sheet.{size};
-ghost use Rattle.xdr_sheet.specs.Lines.{written};
-ghost use Rattle.xdr_sheet.specs.Printing.{nextLine, following, tallied, lastOf};
+ghost use Rattle.xdr_sheet.specs.Sheet.{maxQuotes};
+ghost use Rattle.xdr_sheet.specs.Tally.{counted};
+ghost use Rattle.xdr_sheet.specs.Text.{letter};
+ghost use Rattle.xdr_sheet.specs.Printing.{start, quoteStep, step, printed, part, filling, filled};
 use crate::sheet::Asked;
 use crate::sheet::Size;
 use crate::sheet::quotes_in;
 use crate::sheet::reply;
+use crate::tally::Tally;
 use crate::text::Line;
+use crate::text::Placed;
 use crate::text::closing_line;
+use crate::text::place;
 use crate::text::refused_line;
 use crate::text::reply_line;
 use explicit_black::quote::Reply;
 
-// How many quotes are answered and how many refused so far, or that the last line is printed.
+// The quotes whose lines are printed, or that the last line is.
 pub enum Progress {
-    Tally { answers: u32, refusals: u32 },
+    Tallied(Tally),
     Over,
 }
 
-// A line, and what comes after it.
+// A line with its letter, and the progress after it.
 pub struct Printed {
     pub line: Line,
+    pub letter: u8,
     pub next: Progress,
 }
 
-// One more quote.
-fn tally(reply: Reply, answers: u32, refusals: u32) -> Progress
-    requires { ⌜ answers + refusals < 1000 ⌝ }
-    ensures { λ r. ⌜ r ≡ tallied answers refusals (replied reply) ⌝ }
+// How many bytes of a buffer are filled, and the progress after them.
+pub struct Filled {
+    pub count: usize,
+    pub next: Progress,
+}
+
+// Before the first line.
+pub fn start() -> Progress
+    ensures { λ r. ⌜ r ≡ start ⌝ }
+{
+    Progress::Tallied(Tally::empty())
+}
+
+fn letter(reply: Reply) -> u8
+    ensures { λ r. ⌜ r ≡ letter (replied reply) ⌝ }
 {
     match reply {
         Reply::Answer {
             total: _,
             volatility: _,
             count: _,
-        } => Progress::Tally {
-            answers: answers + 1,
-            refusals: refusals,
-        },
+        } => b'V',
         Reply::Refusal {
             number: _,
             count: _,
-        } => Progress::Tally {
-            answers: answers,
-            refusals: refusals + 1,
-        },
+        } => b'R',
     }
 }
 
-// The line after those of the quotes.
-fn last_line(sheet: &[u8], answers: u32, refusals: u32) -> Line
-    ensures { λ r. ⌜ written r ≡ lastOf answers refusals (size (now (sheet .entry))) ⌝ }
+// The line of a quote after those tallied.
+fn quote_line(tally: Tally, reply: Reply) -> Printed
+    requires { ⌜ counted tally < maxQuotes ⌝ }
+    ensures { λ r. ⌜ printed r ≡ quoteStep tally (replied reply) ⌝ }
+{
+    let line = reply_line(tally.quotes() + 1, reply);
+    let letter = letter(reply);
+    let next = Progress::Tallied(tally.with(reply));
+    Printed {
+        line: line,
+        letter: letter,
+        next: next,
+    }
+}
+
+// The line that comes after those of the quotes tallied.
+pub fn next_line(sheet: &[u8], tally: Tally) -> Printed
+    ensures { λ r. ⌜ printed r ≡ step (now (sheet .entry)) tally ⌝ }
 {
     match quotes_in(sheet) {
-        Size::Quotes(_) => closing_line(answers as u64, refusals as u64),
-        Size::Refused => refused_line(),
-    }
-}
-
-// The line that comes next, an empty one where the last is printed.
-pub fn next_line(sheet: &[u8], progress: Progress) -> Printed
-    ensures { λ r. ⌜ (written (r .line) ≡ nextLine (now (sheet .entry)) progress) × (r .next ≡ following (now (sheet .entry)) progress) ⌝ }
-{
-    match progress {
-        Progress::Tally { answers, refusals } => {
-            let index = answers as u64 + refusals as u64;
-            match reply(sheet, index) {
-                Asked::Replied(replied) => {
-                    let line = reply_line(index + 1, replied);
-                    let next = tally(replied, answers, refusals);
-                    Printed {
-                        line: line,
-                        next: next,
-                    }
-                }
-                Asked::Nothing => {
-                    let line = last_line(sheet, answers, refusals);
-                    Printed {
-                        line: line,
-                        next: Progress::Over,
-                    }
+        Size::Quotes(_) => match reply(sheet, tally.quotes()) {
+            Asked::Replied(reply) => quote_line(tally, reply),
+            Asked::Nothing => {
+                let line = closing_line(tally);
+                Printed {
+                    line: line,
+                    letter: b'T',
+                    next: Progress::Over,
                 }
             }
-        }
-        Progress::Over => {
-            let line = Line::empty();
+        },
+        Size::Refusal { number, count: _ } => {
+            let line = refused_line(number);
             Printed {
                 line: line,
+                letter: b'S',
                 next: Progress::Over,
             }
         }
+    }
+}
+
+// As many whole next lines as the buffer holds, at its start.
+pub fn fill(sheet: &[u8], progress: Progress, out: &mut [u8]) -> Filled
+    ensures { λ r. ⌜ filled r (now (out .exit)) ≡ filling (now (out .entry)) (part (now (sheet .entry)) progress (length (now (out .entry)))) ⌝ }
+{
+    let mut count: usize = 0;
+    let mut next = progress;
+    loop {
+        let Progress::Tallied(tally) = next else {
+            return Filled {
+                count: count,
+                next: Progress::Over,
+            };
+        };
+        let printed = next_line(sheet, tally);
+        let line = printed.line;
+        let after = printed.next;
+        let Placed::Bytes(more) = place(line, &mut out[count..]) else {
+            return Filled {
+                count: count,
+                next: next,
+            };
+        };
+        count += more;
+        next = after;
     }
 }

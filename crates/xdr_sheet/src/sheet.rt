@@ -1,21 +1,44 @@
 // A sheet: an unsigned count, then for each quote an unsigned side and the doubles price, forward,
-// strike and time; 36 bytes a quote.
+// strike and time.
 ghost use mathlib.Core.Path.{_≡_};
-ghost use Prim.Native.Nat.{_+_, _*_, _≤_};
+ghost use Prim.Native.Nat.{_+_, _≤_};
 ghost use lib.ListN.{length};
 ghost use Rattle.explicit_black.specs.Replies.{replied};
-ghost use Rattle.xdr_sheet.specs.Sheet.{size, replyFrom, quotedAt};
+ghost use Rattle.xdr_sheet.specs.Sheet.{quoteBytes, size, replyFrom, quotedAt};
 ghost use Rattle.xdr_sheet.specs.Replies.{sized, asked};
 use crate::xdr::double;
 use crate::xdr::unsigned;
 use explicit_black::quote::Reply;
 use explicit_black::quote::implied_black_volatility_input;
 
-// How many quotes a sheet has, or that it is refused.
+const COUNT_BYTES: usize = 4;
+
+const QUOTE_BYTES: usize = 36;
+
+const MAX_QUOTES: u32 = 1000;
+
+// The longest sheet.
+pub const MAX_BYTES: usize = COUNT_BYTES + QUOTE_BYTES * MAX_QUOTES as usize;
+
+// Where the figures of a quote start; its side comes first.
+const PRICE: usize = 4;
+
+const FORWARD: usize = 12;
+
+const STRIKE: usize = 20;
+
+const TIME: usize = 28;
+
+// How many quotes a sheet has, or the number and count of its refusal.
 pub enum Size {
     Quotes(u32),
-    Refused,
+    Refusal { number: u32, count: u64 },
 }
+
+const NO_SHEET: Size = Size::Refusal {
+    number: 10,
+    count: 0,
+};
 
 // A quote's reply, or that the sheet has no such quote.
 pub enum Asked {
@@ -23,48 +46,51 @@ pub enum Asked {
     Nothing,
 }
 
-// Under 4 bytes, a count over 1,000, or a length that is not 4 + 36 times the count is refused.
+// Too short for a count, too many quotes, or not as long as their count says: refused.
 pub fn quotes_in(sheet: &[u8]) -> Size
     ensures { λ r. ⌜ sized r ≡ size (now (sheet .entry)) ⌝ }
 {
-    if sheet.len() < 4 {
-        return Size::Refused;
+    if sheet.len() < COUNT_BYTES {
+        return NO_SHEET;
     }
     let count = unsigned(sheet, 0);
-    if 1000 < count {
-        return Size::Refused;
+    if MAX_QUOTES < count {
+        return NO_SHEET;
     }
-    if sheet.len() == 4 + 36 * (count as usize) {
+    if sheet.len() == COUNT_BYTES + QUOTE_BYTES * (count as usize) {
         Size::Quotes(count)
     } else {
-        Size::Refused
+        NO_SHEET
     }
 }
 
-// The reply of the quote whose 36 bytes start at `at`.
+// The reply of the quote that starts at `at`.
 fn quote(sheet: &[u8], at: usize) -> Reply
-    requires { ⌜ at + 36 ≤ length (now sheet) ⌝ }
+    requires { ⌜ at + quoteBytes ≤ length (now sheet) ⌝ }
     ensures { λ r. ⌜ replied r ≡ replyFrom (now (sheet .entry)) at ⌝ }
 {
     let side = unsigned(sheet, at);
-    let price = double(sheet, at + 4);
-    let forward = double(sheet, at + 12);
-    let strike = double(sheet, at + 20);
-    let time = double(sheet, at + 28);
+    let price = double(sheet, at + PRICE);
+    let forward = double(sheet, at + FORWARD);
+    let strike = double(sheet, at + STRIKE);
+    let time = double(sheet, at + TIME);
     implied_black_volatility_input(side, price, forward, strike, time)
 }
 
-// The reply of the quote with `index` quotes before it.
+// The reply of the quote with `index` quotes before it. Each quote of a refused sheet is refused as it is.
 pub fn reply(sheet: &[u8], index: u64) -> Asked
     ensures { λ r. ⌜ asked r ≡ quotedAt (now (sheet .entry)) index ⌝ }
 {
     match quotes_in(sheet) {
         Size::Quotes(count) => {
             if index < count as u64 {
-                return Asked::Replied(quote(sheet, 4 + 36 * (index as usize)));
+                return Asked::Replied(quote(sheet, COUNT_BYTES + QUOTE_BYTES * (index as usize)));
             }
             Asked::Nothing
         }
-        Size::Refused => Asked::Nothing,
+        Size::Refusal { number, count } => Asked::Replied(Reply::Refusal {
+            number: number,
+            count: count,
+        }),
     }
 }

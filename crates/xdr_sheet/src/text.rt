@@ -1,25 +1,32 @@
 // A line of text, built by value: at most 78 bytes, two numbers of 20 digits, two of 16 and six more.
 ghost use mathlib.Core.Path.{_≡_};
-ghost use mathlib.Core.List.{_∷_, []};
+ghost use mathlib.Core.List.{_∷_, [], _++_};
 ghost use Prim.Native.Nat.{_+_, _≤_, _<_};
-ghost use lib.ListN.{length};
-ghost use lib.Seq.{paste};
+ghost use lib.ListN.{length, take, drop};
 ghost use lib.Ieee.{binary64, toBits};
 ghost use Rattle.explicit_black.specs.Replies.{replied};
+ghost use Rattle.xdr_sheet.specs.Text.{lineBytes, decimalDigits, hexadecimalDigits};
 ghost use Rattle.xdr_sheet.specs.Text.{decimal, hexadecimal, answerFields, refusalFields, line, closing, refusedSheet};
-ghost use Rattle.xdr_sheet.specs.Lines.{written, Extended, placed, appended};
+ghost use Rattle.xdr_sheet.specs.Lines.{written, Extended, placed, placing};
+use crate::tally::Tally;
 use explicit_black::quote::Reply;
+
+pub const LINE_BYTES: usize = 80;
+
+const DECIMAL_DIGITS: usize = 20;
+
+const HEXADECIMAL_DIGITS: usize = 16;
 
 // Its text is the first `length` of the bytes; the others are of no account.
 pub struct Line {
-    pub bytes: [u8; 80],
+    pub bytes: [u8; LINE_BYTES],
     pub length: usize,
 }
 
-// Where the next line goes in a lent buffer, or that the buffer had no room and is as before.
+// How many bytes were put at the start of a lent buffer, or that it had no room and is as before.
 pub enum Placed {
-    At(usize),
-    Full,
+    Bytes(usize),
+    NoRoom,
 }
 
 impl Line {
@@ -27,20 +34,24 @@ impl Line {
         ensures { λ r. ⌜ (written r ≡ []) × (r .length ≡ 0) ⌝ }
     {
         Line {
-            bytes: [0u8; 80],
+            bytes: [0u8; LINE_BYTES],
             length: 0,
         }
     }
 
     // How many bytes the text has.
     fn count(self) -> usize
-        ensures { λ r. ⌜ (r ≡ length (written self)) × (r ≤ 80) ⌝ }
+        ensures { λ r. ⌜ (r ≡ length (written self)) × (r ≤ lineBytes) ⌝ }
     {
-        if self.length < 80 { self.length } else { 80 }
+        if self.length < LINE_BYTES {
+            self.length
+        } else {
+            LINE_BYTES
+        }
     }
 
     pub(crate) fn byte(self, b: u8) -> Line
-        requires { ⌜ self .length < 80 ⌝ }
+        requires { ⌜ self .length < lineBytes ⌝ }
         ensures { λ r. ⌜ Extended self (b ∷ []) r ⌝ }
     {
         let at = self.length;
@@ -53,7 +64,7 @@ impl Line {
     }
 
     pub(crate) fn bytes(self, s: &[u8]) -> Line
-        requires { ⌜ self .length + length (now s) ≤ 80 ⌝ }
+        requires { ⌜ self .length + length (now s) ≤ lineBytes ⌝ }
         ensures { λ r. ⌜ Extended self (now (s .entry)) r ⌝ }
     {
         let mut line = self;
@@ -66,26 +77,26 @@ impl Line {
     }
 
     pub(crate) fn decimal(self, n: u64) -> Line
-        requires { ⌜ self .length ≤ 60 ⌝ }
-        ensures { λ r. ⌜ Extended self (decimal n) r × (r .length ≤ self .length + 20) ⌝ }
+        requires { ⌜ self .length + decimalDigits ≤ lineBytes ⌝ }
+        ensures { λ r. ⌜ Extended self (decimal n) r × (r .length ≤ self .length + decimalDigits) ⌝ }
     {
-        let mut digits = [0u8; 20];
+        let mut digits = [0u8; DECIMAL_DIGITS];
         let k = io::decimal(n, &mut digits);
         self.bytes(&digits[..k])
     }
 
     pub(crate) fn hexadecimal(self, bits: u64) -> Line
-        requires { ⌜ self .length ≤ 64 ⌝ }
-        ensures { λ r. ⌜ Extended self (hexadecimal bits) r × (r .length ≡ self .length + 16) ⌝ }
+        requires { ⌜ self .length + hexadecimalDigits ≤ lineBytes ⌝ }
+        ensures { λ r. ⌜ Extended self (hexadecimal bits) r × (r .length ≡ self .length + hexadecimalDigits) ⌝ }
     {
-        let mut digits = [0u8; 16];
-        let k = io::hex(bits, 16, &mut digits);
+        let mut digits = [0u8; HEXADECIMAL_DIGITS];
+        let k = io::hex(bits, HEXADECIMAL_DIGITS, &mut digits);
         self.bytes(&digits[..k])
     }
 
     // What follows the number of a quote that is answered.
     fn answer(self, total: u64, volatility: u64, count: u64) -> Line
-        requires { ⌜ self .length ≤ 20 ⌝ }
+        requires { ⌜ self .length ≤ decimalDigits ⌝ }
         ensures { λ r. ⌜ Extended self (answerFields total volatility count) r ⌝ }
     {
         self.bytes(b" V ")
@@ -99,7 +110,7 @@ impl Line {
 
     // What follows the number of a quote that is refused.
     fn refusal(self, reason: u64, count: u64) -> Line
-        requires { ⌜ self .length ≤ 20 ⌝ }
+        requires { ⌜ self .length ≤ decimalDigits ⌝ }
         ensures { λ r. ⌜ Extended self (refusalFields reason count) r ⌝ }
     {
         self.bytes(b" R ")
@@ -139,47 +150,47 @@ pub fn reply_line(number: u64, reply: Reply) -> Line
 }
 
 // The last line.
-pub fn closing_line(answers: u64, refusals: u64) -> Line
-    ensures { λ r. ⌜ written r ≡ closing answers refusals ⌝ }
+pub fn closing_line(tally: Tally) -> Line
+    ensures { λ r. ⌜ written r ≡ closing tally ⌝ }
 {
     Line::empty()
         .bytes(b"T ")
-        .decimal(answers)
+        .decimal(tally.answers as u64)
         .bytes(b" ")
-        .decimal(refusals)
+        .decimal(tally.refusals as u64)
         .bytes(b"\n")
 }
 
 // The line of a refused sheet.
-pub fn refused_line() -> Line
-    ensures { λ r. ⌜ written r ≡ refusedSheet ⌝ }
+pub fn refused_line(number: u32) -> Line
+    ensures { λ r. ⌜ written r ≡ refusedSheet number ⌝ }
 {
-    Line::empty().bytes(b"S 10\n")
+    Line::empty()
+        .bytes(b"S ")
+        .decimal(number as u64)
+        .bytes(b"\n")
 }
 
-// Writes a line into a lent buffer from `at` on.
-pub fn append(line: Line, out: &mut [u8], at: usize) -> Placed
-    ensures { λ r. ⌜ (r ≡ placed (written line) at (now (out .entry))) × (now (out .exit) ≡ appended (written line) at (now (out .entry))) ⌝ }
+// Puts a line at the start of a lent buffer.
+pub fn place(line: Line, out: &mut [u8]) -> Placed
+    ensures { λ r. ⌜ (r ≡ placed (written line) (now (out .entry))) × (now (out .exit) ≡ placing (written line) (now (out .entry))) ⌝ }
 {
     let count = line.count();
     if out.len() < count {
-        return Placed::Full;
-    }
-    if out.len() - count < at {
-        return Placed::Full;
+        return Placed::NoRoom;
     }
     let bytes = line.bytes;
-    copy(bytes, count, out, at);
-    Placed::At(at + count)
+    copy(bytes, count, out);
+    Placed::Bytes(count)
 }
 
-fn copy(bytes: [u8; 80], count: usize, out: &mut [u8], at: usize)
-    requires { ⌜ (count ≤ 80) × (at + count ≤ length (now out)) ⌝ }
-    ensures { λ _. ⌜ now (out .exit) ≡ paste (now (out .entry)) at bytes count ⌝ }
+fn copy(bytes: [u8; LINE_BYTES], count: usize, out: &mut [u8])
+    requires { ⌜ (count ≤ lineBytes) × (count ≤ length (now out)) ⌝ }
+    ensures { λ _. ⌜ now (out .exit) ≡ take count bytes ++ drop count (now (out .entry)) ⌝ }
 {
     let mut i: usize = 0;
     while i < count {
-        out[at + i] = bytes[i];
+        out[i] = bytes[i];
         i += 1;
     }
 }

@@ -8,15 +8,17 @@ use Rattle.exports.proofs.quoter_sheet_quote.Tie as tie
 
 returns : tie.Need-returns
 returns c =
-    let q = c .before .before .before .before .before .before .before in
+    let l = c .before .before .before in
+    let r = l .before .before in
+    let q = r .before .before in
     let a = q .before .before .args in
-    c .hand .ensures ∙ ap (handingOf (a .total .now) (a .volatility .now)) (sym (ap asked (c .before .before .before .before .before .reply2 .given .1)) ∙ q .reply .ensures)
+    c .hand .ensures ∙ ap (handingOf (a .total .now) (a .volatility .now) (a .count .now)) (sym (ap asked (r .reply2 .given .1)) ∙ q .reply .ensures)
 
 returns-2 : tie.Need-returns-2
 returns-2 c =
     let q = c .before .before in
     let a = q .before .before .args in
-    ap (handingOf (a .total .now) (a .volatility .now)) (sym (ap asked (c .enum-told .given .1)) ∙ q .reply .ensures)
+    ap (handingOf (a .total .now) (a .volatility .now) (a .count .now)) (sym (ap asked (c .enum-told .given .1)) ∙ q .reply .ensures)
 
 pub quoter-sheet-quote-spec : {M : Type 1} → statement M
 quoter-sheet-quote-spec =

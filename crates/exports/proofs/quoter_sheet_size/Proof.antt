@@ -13,8 +13,8 @@ returns c =
 
 returns-2 : tie.Need-returns-2
 returns-2 c =
-    let q = c .before .before in
-    ap (countingOf (q .before .before .args .quotes .now)) (sym (ap sized (c .enum-told .given .1)) ∙ q .quotes-in .ensures)
+    let q = c .before .before .before in
+    ap (countingOf (q .before .before .args .quotes .now)) (sym (ap sized (c .before .number .given .1)) ∙ q .quotes-in .ensures)
 
 pub quoter-sheet-size-spec : {M : Type 1} → statement M
 quoter-sheet-size-spec =

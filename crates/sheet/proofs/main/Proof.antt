@@ -7,11 +7,11 @@ use Rattle.sheet.proofs.main.Tie as tie
 
 slice-aggregate-print : tie.Need-slice-aggregate-print
 slice-aggregate-print c =
-    let r = c .before .before .before .before .read-sheet in
+    let r = c .before .before .before .read-sheet in
     sym (length-take-le (r .result .count) (r .last .0) (search needs))
 
 pub main-spec : {M : Type 1} → statement M
 main-spec =
     tie.close
-    (tie.spec (λ c. search needs) (λ c κs. search needs) (λ c. search needs) (λ c κs. search needs) (λ c. search needs)
-    slice-aggregate-print (λ c. search needs) (λ c κs. search needs) (λ c. search needs))
+    (tie.spec (λ c. search needs) (λ c κs. search needs) (λ c. search needs) (λ c. search needs) slice-aggregate-print (λ c κs. search needs)
+    (λ c. search needs))

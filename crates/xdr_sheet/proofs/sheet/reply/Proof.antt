@@ -7,29 +7,36 @@ use borrow.Author.Needs.{needs}
 use Rattle.xdr_sheet.proofs.sheet.reply.Statement.{statement}
 use Rattle.xdr_sheet.proofs.sheet.reply.Tie as tie
 
--- the size that the sheet was found to have
-counted : (a : tie.After-count) → quotes (a .count .given .0 .0) ≡ size (a .before .before .before .before .args .sheet .now)
-counted a = sym (ap sized (a .count .given .1)) ∙ a .before .before .quotes-in .ensures
+-- what was found of the sheet, and the function's start
+abbrev found : tie.After-count → tie.After-quotes-in
+found n = n .before .before
+
+abbrev entry : tie.After-quotes-in → tie.Start
+entry q = q .before .before
+
+accepted : (n : tie.After-count) → quotes (n .count .given .0 .0) ≡ size (entry (found n) .args .sheet .now)
+accepted n = sym (ap sized (n .count .given .1)) ∙ found n .quotes-in .ensures
 
 quote-requires : tie.Need-quote-requires
 quote-requires c κs =
-    let a = c .before .before .before .before .before .before in
-    quote-within (a .args .sheet .now) _ (a .args .index) (counted (c .before .before)) (c .if1 .taken)
+    let n = c .before .before in
+    quote-within _ _ (entry (found n) .args .index) (accepted n) (c .if1 .taken)
 
 returns : tie.Need-returns
 returns c =
-    let a = c .before .before .before .before .before .before .before in
-    ap quoted (c .quote .ensures) ∙ quote-there (a .args .sheet .now) _ (a .args .index) (counted (c .before .before .before)) (c .before .if1 .taken)
+    let n = c .before .before .before in
+    ap quoted (c .quote .ensures) ∙ quote-there _ _ (entry (found n) .args .index) (accepted n) (c .before .if1 .taken)
 
 returns-2 : tie.Need-returns-2
 returns-2 c =
-    let a = c .before .before .before .before .before .before in
-    quote-past (a .args .sheet .now) _ (a .args .index) (counted (c .before .before)) (c .if1 .left)
+    let n = c .before .before in
+    quote-past _ _ (entry (found n) .args .index) (accepted n) (c .if1 .left)
 
 returns-3 : tie.Need-returns-3
 returns-3 c =
-    let a = c .before .before .before .before in
-    quote-none (a .args .sheet .now) (a .args .index) (sym (ap sized (c .enum-told .given .1)) ∙ c .before .before .quotes-in .ensures)
+    let n = c .before in
+    let q = n .before .before in
+    quote-none (entry q .args .sheet .now) (entry q .args .index) _ _ (sym (ap sized (n .number .given .1)) ∙ q .quotes-in .ensures)
 
 pub reply-spec : {M : Type 1} → statement M
 reply-spec =

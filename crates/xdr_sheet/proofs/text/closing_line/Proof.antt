@@ -9,12 +9,14 @@ returns : tie.Need-returns
 unfolding closing
 returns c =
     let d = c .before .before in
-    let e = d .before .before .before in
-    from-empty (e .before .before .before .empty .ensures .0)
-    (e .before .bytes .ensures then e .decimal .ensures .0 then d .before .bytes2 .ensures then d .decimal2 .ensures .0 then c .bytes3 .ensures)
+    let b = d .before .before in
+    let e = b .before .before in
+    let f = e .before .before in
+    from-empty (f .before .before .empty .ensures .0)
+    (f .bytes .ensures then e .decimal .ensures .0 then b .bytes2 .ensures then d .decimal2 .ensures .0 then c .bytes3 .ensures)
 
 pub closing-line-spec : {M : Type 1} → statement M
 closing-line-spec =
     tie.close
-    (tie.spec (λ c κs. search needs) (λ c. search needs) (λ c κs. search needs) (λ c κs. search needs) (λ c. search needs) (λ c κs. search needs) (λ c κs. search needs)
-    (λ c. search needs) (λ c κs. search needs) returns)
+    (tie.spec (λ c κs. search needs) (λ c. search needs) (λ c κs. search needs) (λ c. search needs) (λ c κs. search needs) (λ c. search needs)
+    (λ c κs. search needs) (λ c. search needs) (λ c κs. search needs) (λ c. search needs) (λ c κs. search needs) returns)

@@ -1,11 +1,18 @@
--- One piece. Assumes nothing.
-use Rattle.xdr_sheet.proofs.Texts.{from-empty}
+-- One piece after another. Assumes nothing.
+use Rattle.xdr_sheet.specs.Text.{refusedSheet}
+use Rattle.xdr_sheet.proofs.Texts.{_then_, from-empty}
 use borrow.Author.Needs.{needs}
 use Rattle.xdr_sheet.proofs.text.refused_line.Statement.{statement}
 use Rattle.xdr_sheet.proofs.text.refused_line.Tie as tie
 
 returns : tie.Need-returns
-returns c = from-empty (c .before .before .empty .ensures .0) (c .bytes .ensures)
+unfolding refusedSheet
+returns c =
+    let d = c .before .before in
+    let b = d .before in
+    from-empty (b .before .before .empty .ensures .0) (b .bytes .ensures then d .decimal .ensures .0 then c .bytes2 .ensures)
 
 pub refused-line-spec : {M : Type 1} → statement M
-refused-line-spec = tie.close (tie.spec (λ c κs. search needs) (λ c. search needs) (λ c κs. search needs) returns)
+refused-line-spec =
+    tie.close
+    (tie.spec (λ c κs. search needs) (λ c. search needs) (λ c κs. search needs) (λ c κs. search needs) (λ c. search needs) (λ c κs. search needs) returns)

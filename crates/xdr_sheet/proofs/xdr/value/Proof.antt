@@ -14,7 +14,9 @@ use Rattle.xdr_sheet.proofs.xdr.value.Tie as tie
 returns : tie.Need-returns
 returns c =
     let b = c .before .args .bits in
-    nan-is ∙ sym (is-nan (ofBits binary64 b) (sym (nanBits-is binary64 b) ∙ nanBits-above binary64 b ∙ lt-ltb 9218868437227405312 (b % 9223372036854775808) (c .if1 .taken)))
+    nan-is
+    ∙ sym (is-nan (ofBits binary64 b)
+    (sym (nanBits-is binary64 b) ∙ nanBits-above binary64 b ∙ lt-ltb 9218868437227405312 (b % 9223372036854775808) (c .if1 .taken)))
 
 float-from-bits-result : tie.Need-float-from-bits-result
 float-from-bits-result c =

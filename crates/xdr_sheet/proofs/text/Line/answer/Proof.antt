@@ -11,7 +11,8 @@ returns c =
     let d = c .before .before in
     let h = d .before .before .before in
     let g = h .before .before .before in
-    g .before .bytes .ensures then g .hexadecimal .ensures .0 then h .before .bytes2 .ensures then h .hexadecimal2 .ensures .0 then d .before .bytes3 .ensures then d .decimal .ensures .0 then c .bytes4 .ensures
+    g .before .bytes .ensures then g .hexadecimal .ensures .0 then h .before .bytes2 .ensures then h .hexadecimal2 .ensures .0
+    then d .before .bytes3 .ensures then d .decimal .ensures .0 then c .bytes4 .ensures
 
 pub answer-spec : {M : Type 1} → statement M
 answer-spec =

@@ -19,7 +19,9 @@ loop-holds : tie.Need-loop-holds Inv-loop μ-loop
 loop-holds c = (search needs, same-line (c .before .args .self))
 
 byte-requires : tie.Need-byte-requires Inv-loop μ-loop
-byte-requires c κs = omega (arith, length-take-le (c .before .before .loop .i) (c .before .before .before .before .args .s .now) (search needs))
+byte-requires c κs =
+    let l = c .before .before in
+    omega (arith, length-take-le (l .loop .i) (l .before .before .args .s .now) (search needs))
 
 loop-again : tie.Need-loop-again Inv-loop μ-loop
 loop-again c =

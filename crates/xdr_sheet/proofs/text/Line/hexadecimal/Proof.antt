@@ -17,9 +17,11 @@ bytes-requires c κs = omega (arith, all (c .before))
 
 returns : tie.Need-returns
 returns c =
-    let d = c .before .before .hex in
-    let a = c .before .before .before .before .args in (
-      subst (λ (t : List ℕ). Extended (a .self) t (c .bytes .result)) (d .ensures .1 .1 ∙ hexadecimal-is (a .bits) (d .result) (search needs) (d .ensures .1 .0)) (c .bytes .ensures),
+    let w = c .before .before in
+    let d = w .hex in
+    let a = w .before .before .args in (
+      subst (λ (t : List ℕ). Extended (a .self) t (c .bytes .result))
+          (d .ensures .1 .1 ∙ hexadecimal-is (a .bits) (d .result) (search needs) (d .ensures .1 .0)) (c .bytes .ensures),
       omega (arith, all (c .before .before), c .bytes .ensures .count),
     )
 

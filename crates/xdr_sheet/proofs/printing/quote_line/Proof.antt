@@ -1,0 +1,12 @@
+-- Straight: the line has the number after those tallied. Assumes nothing.
+use borrow.Author.Needs.{needs}
+use Rattle.xdr_sheet.proofs.printing.quote_line.Statement.{statement}
+use Rattle.xdr_sheet.proofs.printing.quote_line.Tie as tie
+
+returns : tie.Need-returns
+returns c =
+    let l = c .before .before in
+    rw (l .reply-line .ensures, l .before .quotes .ensures, c .before .letter .ensures, c .with .ensures)
+
+pub quote-line-spec : {M : Type 1} → statement M
+quote-line-spec = tie.close (tie.spec (λ c κs. search needs) (λ c. search needs) (λ c κs. search needs) (λ c κs. search needs) (λ c κs. search needs) returns)

@@ -1,0 +1,23 @@
+-- The test says whether the text fits. Assumes nothing.
+use native.Mathlib.Omega.{arith}
+use Rattle.xdr_sheet.specs.Lines.{written}
+use Rattle.xdr_sheet.proofs.Texts.{no-room, with-room}
+use borrow.Author.Needs.{needs}
+use Rattle.xdr_sheet.proofs.text.place.Statement.{statement}
+use Rattle.xdr_sheet.proofs.text.place.Tie as tie
+
+returns : tie.Need-returns
+returns c =
+    let a = c .before .before .before .args in
+    no-room (written (a .line)) (a .out .now) (omega arith)
+
+returns-2 : tie.Need-returns-2
+returns-2 c =
+    let d = c .before .before in
+    let b = d .before .before in
+    let n = b .before .before in
+    let a = n .before .before .args in
+    with-room (a .line) (n .count .result) (a .out .now) _ (n .count .ensures .0) (omega arith) (d .copy .ensures)
+
+pub place-spec : {M : Type 1} → statement M
+place-spec = tie.close (tie.spec (λ c κs. search needs) returns (λ c κs. search needs) (λ c. search needs) returns-2)

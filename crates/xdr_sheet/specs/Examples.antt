@@ -1,0 +1,51 @@
+-- Document 01's sheets and their text, to the byte. Assumes nothing.
+use mathlib.Core.Path.{_≡_, refl}
+use Prim.Native.Nat.{ℕ}
+use mathlib.Core.List.{List, [], _∷_, _++_}
+use lib.Ieee.{add, sub, mul, div, lt, le, eq, isNan, ofBits, toBits}
+use Rattle.arithmetic.specs.Sqrt.{sqrt}
+use Rattle.explicit_black.specs.Quote.{volatility, firstRefusal, valued, priced, inputOutcome, impliedBlackVolatilityInput}
+use Rattle.xdr_sheet.specs.Text.{ascii}
+use Rattle.xdr_sheet.specs.Sheet.{text}
+
+-- the doubles of the sample
+abbrev nought : List ℕ
+nought = 0x00 ∷ 0x00 ∷ 0x00 ∷ 0x00 ∷ 0x00 ∷ 0x00 ∷ 0x00 ∷ 0x00 ∷ []
+
+abbrev one : List ℕ
+one = 0x3F ∷ 0xF0 ∷ 0x00 ∷ 0x00 ∷ 0x00 ∷ 0x00 ∷ 0x00 ∷ 0x00 ∷ []
+
+abbrev five : List ℕ
+five = 0x40 ∷ 0x14 ∷ 0x00 ∷ 0x00 ∷ 0x00 ∷ 0x00 ∷ 0x00 ∷ 0x00 ∷ []
+
+abbrev hundred : List ℕ
+hundred = 0x40 ∷ 0x59 ∷ 0x00 ∷ 0x00 ∷ 0x00 ∷ 0x00 ∷ 0x00 ∷ 0x00 ∷ []
+
+abbrev hundredTwenty : List ℕ
+hundredTwenty = 0x40 ∷ 0x5E ∷ 0x00 ∷ 0x00 ∷ 0x00 ∷ 0x00 ∷ 0x00 ∷ 0x00 ∷ []
+
+-- a word below 256
+abbrev word : ℕ → List ℕ
+word n = 0x00 ∷ 0x00 ∷ 0x00 ∷ n ∷ []
+
+-- three quotes: side, price, forward, strike, time
+abbrev pub sample : List ℕ
+sample =
+    word 3
+    ++ word 0 ++ nought ++ hundred ++ hundredTwenty ++ one
+    ++ word 0 ++ hundred ++ hundred ++ hundredTwenty ++ one
+    ++ word 1 ++ five ++ hundred ++ hundredTwenty ++ one
+
+pub text-of-sample : text sample ≡ ascii "1 V 0000000000000000 0000000000000000 0\n2 V 7ff0000000000000 7ff0000000000000 0\n3 R 7 0\nT 2 1\n"
+unfolding text impliedBlackVolatilityInput inputOutcome firstRefusal priced valued volatility sqrt add sub mul div lt le eq isNan ofBits toBits
+text-of-sample = refl
+
+-- no quotes
+pub text-of-no-quotes : text (word 0) ≡ ascii "T 0 0\n"
+unfolding text
+text-of-no-quotes = refl
+
+-- three bytes are no sheet
+pub text-of-no-sheet : text (0 ∷ 0 ∷ 0 ∷ []) ≡ ascii "S 10\n"
+unfolding text
+text-of-no-sheet = refl

@@ -155,9 +155,21 @@ refusals-differ = record {
 
 -- ---- beyond the ratio's limit 4 ^ n is not kept
 
--- two calls that meet demand 3's terms, but that the strike is over 2 ^ 1022 times the forward
+-- the terms of demand 3, but that the strike is over 2 ^ 1022 times the forward
+pub record Over (price forward strike : Float) : Type 0 where
+  pub price-finite : T (finite price)
+  pub price-not-negative : T (le nought price)
+  pub forward-finite : T (finite forward)
+  pub forward-normal : T (le minPositive forward)
+  pub strike-finite : T (finite strike)
+  pub strike-normal : T (le minPositive strike)
+  pub forward-not-over : NotOver forward strike
+  pub strike-over : NotOver strike forward → ⊥
+
+-- two such calls, the figures of the second exactly 4 times those of the first, which are not answered alike
 pub record Beyond (p f k p' f' k' : Float) : Type 0 where
-  pub over : NotOver k f → ⊥
+  pub first : Over p f k
+  pub second : Over p' f' k'
   pub price : Exactly (pos 1) p p'
   pub forward : Exactly (pos 1) f f'
   pub strike : Exactly (pos 1) k k'
@@ -210,13 +222,27 @@ far-refused : call (bits 0x01CD_FFFF_FFFF_FFFF) (bits 0x01CE_0000_0000_0000) (bi
 unfolding call ofBits
 far-refused = refl
 
+over : (p f k : Float) → T (finite p) → T (le nought p) → T (finite f) → T (le minPositive f) → T (finite k) → T (le minPositive k)
+    → NotOver f k → (NotOver k f → ⊥) → Over p f k
+over p f k a b c d e g h i = record {
+  price-finite = a;
+  price-not-negative = b;
+  forward-finite = c;
+  forward-normal = d;
+  strike-finite = e;
+  strike-normal = g;
+  forward-not-over = h;
+  strike-over = i;
+}
+
 four : (x y : Float) → T (finite x) → T (finite y) → num y * den x * 1 ≡ num x * den y * 4 → minus? y ≡ minus? x → Exactly (pos 1) x y
 four x y a b e s = record { finite-x = a; finite-y = b; fraction = e; signs = inr s }
 
 pub ratio-limited : Beyond farPrice farForward farStrike (bits 0x01CD_FFFF_FFFF_FFFF) (bits 0x01CE_0000_0000_0000) (bits 0x41B2_0000_0000_0000)
-unfolding ofBits isEight
+unfolding ofBits le isEight
 ratio-limited = record {
-  over = λ h. le→leb _ _ h;
+  first = over farPrice farForward farStrike tt tt tt tt tt tt (lit≤ tt) (λ h. le→leb _ _ h);
+  second = over _ _ _ tt tt tt tt tt tt (lit≤ tt) (λ h. le→leb _ _ h);
   price = four farPrice _ tt tt refl refl;
   forward = four farForward _ tt tt refl refl;
   strike = four farStrike _ tt tt refl refl;

@@ -5,7 +5,7 @@ use lib.Ieee.{Float, le, eq}
 use Rattle.arithmetic.specs.Operations.{nought, infinity}
 use Rattle.arithmetic.specs.Basic.{max}
 use Rattle.explicit_black.specs.Counted.{some, none, Counted, atOnce, orElse}
-use Rattle.explicit_black.specs.Quote.{Outcome, total, refused, normalisedTimeValue, valued, boundTests, priced}
+use Rattle.explicit_black.specs.Quote.{Outcome, total, refused, normalisedTimeValue, valued, priced}
 
 pub priced-is : (p d b r x t : Float) → priced p d b r x t ≡ cond (eq t nought) (atOnce (cond (eq p (max d nought)) (total nought) (refused 5)))
     (cond (le b p) (atOnce (cond (eq p b) (total infinity) (refused 6)))

@@ -5,7 +5,6 @@ use Rattle.special_function.specs.NormalDistribution.{normPdf}
 use Rattle.explicit_black.specs.declared.bracket.Bracket.{Bracket}
 use Rattle.explicit_black.specs.declared.bracket.Widening.{Widening}
 use Rattle.explicit_black.specs.declared.bracket.Widening.the-variants.{Reached, Wider}
-use Rattle.explicit_black.specs.declared.curves.Allowance.{Allowance}
 use Rattle.explicit_black.specs.declared.curves.Evaluation.{Evaluation}
 use Rattle.explicit_black.specs.declared.curves.Evaluation.the-variants.{Value, Spent as NoValue}
 use Rattle.explicit_black.specs.declared.curves.SurvivalEvaluation.{SurvivalEvaluation}

@@ -1,7 +1,7 @@
 -- `inverse_gaussian_quantile` and `inverse_gaussian_quantile_bracketed`. Definitions only.
 use mathlib.Core.Bool.{Bool, cond, _&&_}
 use lib.Ieee.{Float, lt, le, eq}
-use Rattle.arithmetic.specs.Operations.{_⊖_, _⊗_, _⊘_, nought, one, minPositive}
+use Rattle.arithmetic.specs.Operations.{_⊖_, _⊗_, nought, one, minPositive}
 use Rattle.arithmetic.specs.Basic.{abs, max}
 use Rattle.explicit_black.specs.declared.bracket.Bracket.{Bracket}
 use Rattle.explicit_black.specs.Counted.{Option, some, none, Counted, atOnce, tick, then, someOf, orElse}

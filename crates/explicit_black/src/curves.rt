@@ -1,5 +1,5 @@
 // The curves of the inverse Gaussian distribution with mean mu. A call of either is an evaluation: it takes one off the
-// number allowed, which nothing outside of this module can change.
+// number allowed, whose field no other module can write to.
 use arithmetic::basic::recip;
 use arithmetic::exp::exp;
 use arithmetic::sqrt::sqrt;

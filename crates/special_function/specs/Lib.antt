@@ -6,4 +6,5 @@ pub mod NormalDistribution
 pub mod Erfinv
 pub mod Shared
 pub mod Laws
+pub mod LawsShared
 pub mod Examples

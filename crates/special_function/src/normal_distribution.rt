@@ -33,7 +33,7 @@ fn is_same(x: f64, y: f64) -> bool
 }
 
 // norm_pdf(a * a) for a caller that has exp(-0.5 * a * a), which is used where its argument is the number -0.5 * (a * a):
-// that can fail only where a product underflows or overflows.
+// that can fail only where a product underflows or overflows, and for a NaN.
 pub fn norm_pdf_of_square(a: f64, exponential: f64) -> f64
     ensures { λ r. ⌜ r ≡ normPdfOfSquare a exponential ⌝ }
 {

@@ -155,8 +155,10 @@ refusals-differ = record {
 
 -- ---- beyond the ratio's limit 4 ^ n is not kept
 
--- two calls that meet demand 3's terms, but that the strike is over 2 ^ 1022 times the forward
+-- two calls that meet demand 3's terms, but that the strike is over 2 ^ 1022 times the forward; that figures are finite stands in `Exactly`
 pub record Beyond (p f k p' f' k' : Float) : Type 0 where
+  pub first : T (le nought p) × T (le minPositive f) × T (le minPositive k)
+  pub second : T (le nought p') × T (le minPositive f') × T (le minPositive k')
   pub over : NotOver k f → ⊥
   pub price : Exactly (pos 1) p p'
   pub forward : Exactly (pos 1) f f'
@@ -214,8 +216,10 @@ four : (x y : Float) → T (finite x) → T (finite y) → num y * den x * 1 ≡
 four x y a b e s = record { finite-x = a; finite-y = b; fraction = e; signs = inr s }
 
 pub ratio-limited : Beyond farPrice farForward farStrike (bits 0x01CD_FFFF_FFFF_FFFF) (bits 0x01CE_0000_0000_0000) (bits 0x41B2_0000_0000_0000)
-unfolding ofBits isEight
+unfolding ofBits le isEight
 ratio-limited = record {
+  first = (tt, tt, tt);
+  second = (tt, tt, tt);
   over = λ h. le→leb _ _ h;
   price = four farPrice _ tt tt refl refl;
   forward = four farForward _ tt tt refl refl;

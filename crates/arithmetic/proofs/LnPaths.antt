@@ -18,7 +18,7 @@ use lib.Ieee.Scale.{finite}
 use lib.Ieee.Positive.{num, den, den-pos, positive, positive-finite, first-pos, between, le→cross}
 use Rattle.arithmetic.specs.Operations.{_⊕_, _⊖_, _⊗_, _⊘_, bits, nought, one}
 use Rattle.arithmetic.specs.Exp.{ln2Low as L}
-use Rattle.arithmetic.specs.Ln.{mantissa, exponent, series, ln, ln1p}
+use Rattle.arithmetic.specs.Ln.{mantissa, exponent, series, ln, fromLeast, toMost, ln1p}
 use Rattle.arithmetic.specs.Laws.Numbers.{lt-or-le}
 use Rattle.arithmetic.specs.Laws.Times.{cross, has-sign, has-finite, neg-num, neg-den, neg-sign, neg-finite}
 use Rattle.arithmetic.specs.Laws.Compare.{finite-no-nan}
@@ -93,9 +93,6 @@ ln-itself (inf false) e l h = refl
 ln-itself (fin s m e) z l h = absurd (true≢false h)
 
 -- ---- `ln1p`, by its tests: -0.25 to 1.5, and 0.40625
-abbrev least : Float
-least = bits 0xbfd0000000000000
-
 abbrev most : Float
 most = bits 0x3ff8000000000000
 
@@ -106,25 +103,25 @@ zero-product : nought ≡ nought ⊗ L ⊕ nought
 unfolding ofBits mul add
 zero-product = refl
 
-pub ln1p-low : (u : Float) → le least u ≡ true → le u most ≡ true → lt u cut ≡ true → series u nought nought ≡ ln1p u
+pub ln1p-low : (u : Float) → fromLeast u ≡ true → toMost u ≡ true → lt u cut ≡ true → series u nought nought ≡ ln1p u
 unfolding ln1p
 ln1p-low u a b c = ap (series u nought) zero-product ∙ rw (a, b, c)
 
-pub ln1p-high : (u m k r : Float) → le least u ≡ true → le u most ≡ true → lt u cut ≡ false → (m ≡ mantissa (one ⊕ u)) × (k ≡ exponent (one ⊕ u))
+pub ln1p-high : (u m k r : Float) → fromLeast u ≡ true → toMost u ≡ true → lt u cut ≡ false → (m ≡ mantissa (one ⊕ u)) × (k ≡ exponent (one ⊕ u))
     → r ≡ series (m ⊖ one) k (k ⊗ L ⊕ (u ⊖ (one ⊕ u ⊖ one)) ⊘ (one ⊕ u)) → r ≡ ln1p u
 unfolding ln1p
 ln1p-high u m k r a b l e h = h ∙ rw (e .0, e .1, a, b, l)
 
-pub ln1p-over : (u : Float) → le least u ≡ true → le u most ≡ false → nought ⊘ nought ≡ ln1p u
+pub ln1p-over : (u : Float) → fromLeast u ≡ true → toMost u ≡ false → nought ⊘ nought ≡ ln1p u
 unfolding ln1p
 ln1p-over u a b = zero-by-zero ∙ rw (a, b)
 
-pub ln1p-under : (u : Float) → le least u ≡ false → nought ⊘ nought ≡ ln1p u
+pub ln1p-under : (u : Float) → fromLeast u ≡ false → nought ⊘ nought ≡ ln1p u
 unfolding ln1p
 ln1p-under u a = zero-by-zero ∙ rw a
 
 -- from 0.40625, which is 13 / 2 ^ 5, to 1.5, which is 3 / 2, u is above zero, and 1 + u lies from 1 to 5 / 2
-in-range : (u : Float) → le u most ≡ true → lt u cut ≡ false → T (positive u)
+in-range : (u : Float) → toMost u ≡ true → lt u cut ≡ false → T (positive u)
 unfolding ofBits lt le
 in-range nan b l = absurd (false≢true b)
 in-range (inf true) b l = absurd (true≢false l)
@@ -139,7 +136,7 @@ sum-is (inf s) p = absurd p
 sum-is (fin true m e) p = absurd p
 sum-is (fin false m e) p = rw (one-mul (down e), mul-one (m * up e))
 
-pub sum-positive : (u : Float) → le u most ≡ true → lt u cut ≡ false → T (positive (one ⊕ u))
+pub sum-positive : (u : Float) → toMost u ≡ true → lt u cut ≡ false → T (positive (one ⊕ u))
 unfolding ofBits round
 sum-positive u b l =
     let p = in-range u b l in

@@ -1,6 +1,6 @@
 -- The natural logarithms `ln` and `ln_1p` of document 01, in its names and its order of operations. Definitions only.
 use Prim.Native.Nat.{ℕ, _-_, _*_, _/_, _^_}
-use mathlib.Core.Bool.{false, true, _&&_, _||_, cond}
+use mathlib.Core.Bool.{Bool, false, true, _&&_, _||_, cond}
 use lib.Dec.{ltb}
 use lib.Ieee.{Float, nan, inf, binary64, low, minus, size, round, add, sub, mul, div, ofInt, isNan, lt, eq, le, ofBits}
 use lib.Ieee.Scale.{finite}
@@ -68,7 +68,14 @@ ln x =
     let f = mantissa x ⊖ one in
     cond (eq x nought) (inf true) (cond (isNan x || lt x nought) nan (cond (finite x) (series f k (k ⊗ L)) x))
 
--- the logarithm of 1 + u, for a u from -0.25 to 1.5; 3FDA000000000000 is 0.40625
+-- the range of `ln_1p`, both ends inside: not below -0.25, and not above 1.5
+abbrev pub fromLeast : Float → Bool
+fromLeast u = le (bits 0xBFD0_0000_0000_0000) u
+
+abbrev pub toMost : Float → Bool
+toMost u = le u (bits 0x3FF8_0000_0000_0000)
+
+-- the logarithm of 1 + u, for a u in the range; 3FDA000000000000 is 0.40625
 unfoldable pub ln1p : Float → Float
 unfolding series mantissa exponent lt le
 ln1p u =
@@ -76,6 +83,6 @@ ln1p u =
     let k = exponent v in
     let f = mantissa v ⊖ one in
     let c = (u ⊖ (v ⊖ one)) ⊘ v in
-    cond (le (bits 0xBFD0_0000_0000_0000) u && le u (bits 0x3FF8_0000_0000_0000))
+    cond (fromLeast u && toMost u)
     (cond (lt u (bits 0x3FDA_0000_0000_0000)) (series u nought (nought ⊗ L ⊕ nought)) (series f k (k ⊗ L ⊕ c)))
     nan

@@ -5,16 +5,6 @@ use Rattle.arithmetic.proofs.LnPaths.{ln1p-low, ln1p-high, ln1p-over, l
 use Rattle.arithmetic.proofs.ln.ln_1p.Statement.{statement}
 use Rattle.arithmetic.proofs.ln.ln_1p.Tie as tie
 
--- outside -0.25 to 1.5
-returns-3 : tie.Need-returns-3
-unfolding ofBits neg
-returns-3 c = ln1p-over (c .before .before .args .u) (c .before .if1 .taken) (c .if2 .left)
-
-returns-4 : tie.Need-returns-4
-unfolding ofBits neg
-returns-4 c = ln1p-under (c .before .args .u) (c .if1 .left)
-
--- inside
 returns : tie.Need-returns
 unfolding ofBits neg
 returns c =
@@ -30,6 +20,14 @@ returns-2 c =
     let d = c .before .before .before .before in
     ln1p-high (d .before .before .before .args .u) _ _ _ (d .before .before .if1 .taken) (d .before .if2 .taken) (d .if3 .left)
     (c .before .before .before .split .ensures) (c .series2 .ensures)
+
+returns-3 : tie.Need-returns-3
+unfolding ofBits neg
+returns-3 c = ln1p-over (c .before .before .args .u) (c .before .if1 .taken) (c .if2 .left)
+
+returns-4 : tie.Need-returns-4
+unfolding ofBits neg
+returns-4 c = ln1p-under (c .before .args .u) (c .if1 .left)
 
 pub ln-1p-spec : {M : Type 1} → statement M
 ln-1p-spec = tie.close (tie.spec (λ c κs. tt) returns split-requires (λ c κs. tt) returns-2 returns-3 returns-4)

@@ -1,6 +1,7 @@
 -- The tests that led to each return pick the definition's case. Assumes nothing.
 use Rattle.xdr_sheet.specs.LawsSheet.{size-short, size-many, size-whole, size-other}
 use borrow.Author.Needs.{needs}
+use native.Mathlib.Omega.{arith}
 use Rattle.xdr_sheet.proofs.sheet.quotes_in.Statement.{statement}
 use Rattle.xdr_sheet.proofs.sheet.quotes_in.Tie as tie
 
@@ -8,7 +9,7 @@ returns : tie.Need-returns
 returns c = size-short _ (c .if1 .taken)
 
 returns-2 : tie.Need-returns-2
-returns-2 c = size-many _ _ (c .before .unsigned .ensures) (c .before .before .if1 .left) (c .if2 .taken)
+returns-2 c = size-many _ _ (c .before .unsigned .ensures) (c .before .before .if1 .left) (omega (arith, c .if2 .taken))
 
 returns-3 : tie.Need-returns-3
 returns-3 c = size-whole _ _ (c .before .before .unsigned .ensures) (c .before .before .before .if1 .left) (c .before .if2 .left) (c .if3 .taken)

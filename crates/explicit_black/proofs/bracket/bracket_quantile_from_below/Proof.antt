@@ -41,7 +41,8 @@ returns-2 c =
 
 loop-less : tie.Need-loop-less Inv-loop μ-loop
 loop-less c =
-    let at-value = c .before .before .before .before .before in
+    let at-widened = c .before .before .before in
+    let at-value = at-widened .before .before in
     let at-cdf = at-value .before .before in
     fewer _ (sym (ap evaluated (at-value .cdf .given .1)) ∙ at-cdf .inverse-gaussian-cdf .ensures)
 

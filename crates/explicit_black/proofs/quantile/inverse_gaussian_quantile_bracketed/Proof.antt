@@ -14,7 +14,8 @@ returns c = no-guess _ _ _ _ (sym (ap evaluated (c .enum-told .given .1)) ∙ c 
 
 bracket-at-requires : tie.Need-bracket-at-requires
 bracket-at-requires c κs =
-    let at-start = c .before .before .before .before in
+    let at-cdf = c .before .before .before in
+    let at-start = at-cdf .before in
     start-proper _ _ _ (at-start .before .before .pre) (at-start .starting-point .ensures)
 
 returns-2 : tie.Need-returns-2

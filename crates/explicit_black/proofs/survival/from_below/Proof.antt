@@ -49,7 +49,8 @@ returns-3 c =
 
 loop-less : tie.Need-loop-less Inv-loop μ-loop
 loop-less c =
-    let at-value = c .before .before .before .before .before in
+    let at-widened = c .before .before .before in
+    let at-value = at-widened .before .before in
     let at-survival = at-value .before .before in
     fewer _ (sym (ap (survivalEvaluated (at-survival .before .loop .bracket .upper)) (at-value .survival .given .1)) ∙ at-survival .inverse-gaussian-survival .ensures)
 

@@ -10,11 +10,28 @@ returns c = rw (c .if1 .taken)
 
 returns-2 : tie.Need-returns-2
 unfolding round tightOr
-returns-2 c = rw (c .before .before .before .before .if1 .left, ← c .before .before .before .narrowed .ensures, sym (c .before .before .bracket-is-tight .ensures) ∙ c .before .if2 .taken, c .bracket-midpoint .ensures)
+returns-2 c =
+    let at-tight = c .before .before in
+    let at-narrowed = at-tight .before in
+    rw (
+      at-narrowed .before .if1 .left,
+      ← at-narrowed .narrowed .ensures,
+      sym (at-tight .bracket-is-tight .ensures) ∙ c .before .if2 .taken,
+      c .bracket-midpoint .ensures,
+    )
 
 returns-3 : tie.Need-returns-3
 unfolding round tightOr
-returns-3 c = rw (c .moved .ensures, c .before .before .before .before .before .if1 .left, ← c .before .before .before .before .narrowed .ensures, sym (c .before .before .before .bracket-is-tight .ensures) ∙ c .before .before .if2 .left, c .before .nrstep .ensures)
+returns-3 c =
+    let at-test = c .before .before in
+    let at-narrowed = at-test .before .before in
+    rw (
+      c .moved .ensures,
+      at-narrowed .before .if1 .left,
+      ← at-narrowed .narrowed .ensures,
+      sym (at-test .before .bracket-is-tight .ensures) ∙ at-test .if2 .left,
+      c .before .nrstep .ensures,
+    )
 
 pub round-spec : {M : Type 1} → statement M
 round-spec =

@@ -16,9 +16,9 @@ use lib.Ieee.Exact.{HasValue}
 use lib.Ieee.Order.{round-mono}
 use lib.Ieee.Scale.{finite}
 use lib.Ieee.Positive.{num, den, den-pos, positive, positive-finite, first-pos, between, le→cross}
-use Rattle.arithmetic.specs.Operations.{_⊕_, _⊖_, _⊗_, _⊘_, bits, nought, one}
-use Rattle.arithmetic.specs.Exp.{ln2Low as L}
-use Rattle.arithmetic.specs.Ln.{mantissa, exponent, series, ln, fromLeast, toMost, ln1p}
+use Rattle.arithmetic.specs.Operations.{_⊕_, _⊖_, _⊗_, _⊘_, bits, plusZero, one}
+use Rattle.arithmetic.specs.Exp.{ln2Lo as L}
+use Rattle.arithmetic.specs.Ln.{significand, exponent, series, ln, fromLeast, toMost, ln1p}
 use Rattle.arithmetic.specs.Laws.Numbers.{lt-or-le}
 use Rattle.arithmetic.specs.Laws.Times.{cross, has-sign, has-finite, neg-num, neg-den, neg-sign, neg-finite}
 use Rattle.arithmetic.specs.Laws.Compare.{finite-no-nan}
@@ -53,20 +53,20 @@ sub-whole n c N C =
     (sum-same binary64 false true n c 1 (num x * den y) (num y * den x) (den x * den y) (zero-lt-suc 0) (mul-pos (den-pos x) (den-pos y)) A B ∙ whole-difference n c)
 
 -- ---- `ln`, by its tests
-zero-by-zero : nought ⊘ nought ≡ nan
+zero-by-zero : plusZero ⊘ plusZero ≡ nan
 unfolding ofBits div
 zero-by-zero = refl
 
-pub ln-zero : (x : Float) → eq x nought ≡ true → bits 0xfff0000000000000 ≡ ln x
+pub ln-zero : (x : Float) → eq x plusZero ≡ true → bits 0xfff0000000000000 ≡ ln x
 unfolding ln ofBits
 ln-zero x e = rw e
 
-pub ln-below : (x : Float) → eq x nought ≡ false → lt x nought ≡ true → nought ⊘ nought ≡ ln x
+pub ln-below : (x : Float) → eq x plusZero ≡ false → lt x plusZero ≡ true → plusZero ⊘ plusZero ≡ ln x
 unfolding ln
 ln-below x e l = zero-by-zero ∙ rw (e, l, or-true (isNan x))
 
 -- not zero, not below it, and below the infinity
-pub above : (x : Float) → eq x nought ≡ false → lt x nought ≡ false → lt x (bits 0x7ff0000000000000) ≡ true → T (positive x)
+pub above : (x : Float) → eq x plusZero ≡ false → lt x plusZero ≡ false → lt x (bits 0x7ff0000000000000) ≡ true → T (positive x)
 unfolding ofBits eq lt
 above nan e l h = absurd (false≢true h)
 above (inf true) e l h = absurd (true≢false l)
@@ -81,11 +81,11 @@ above (fin true m e) z l h = absurd (true≢false (sym (equal (m * up e * 1) (0 
 above (fin false zero e) z l h = absurd (true≢false (sym (rw (zero-mul (up e), zero-mul (down e))) ∙ z))
 above (fin false (suc m) e) z l h = lt→ltb 0 (suc m) (zero-lt-suc m)
 
-pub ln-parts : (x m k r : Float) → eq x nought ≡ false → lt x nought ≡ false → T (positive x) → (m ≡ mantissa x) × (k ≡ exponent x) → r ≡ series (m ⊖ one) k (k ⊗ L) → r ≡ ln x
+pub ln-parts : (x m k r : Float) → eq x plusZero ≡ false → lt x plusZero ≡ false → T (positive x) → (m ≡ significand x) × (k ≡ exponent x) → r ≡ series (m ⊖ one) k (k ⊗ L) → r ≡ ln x
 unfolding ln
 ln-parts x m k r z l p e h = h ∙ rw (e .0, e .1, z, l, finite-no-nan x (positive-finite x p), is-true (finite x) (positive-finite x p))
 
-pub ln-itself : (x : Float) → eq x nought ≡ false → lt x nought ≡ false → lt x (bits 0x7ff0000000000000) ≡ false → x ≡ ln x
+pub ln-itself : (x : Float) → eq x plusZero ≡ false → lt x plusZero ≡ false → lt x (bits 0x7ff0000000000000) ≡ false → x ≡ ln x
 unfolding ln ofBits lt isNan
 ln-itself nan e l h = refl
 ln-itself (inf true) e l h = absurd (true≢false h)
@@ -99,24 +99,24 @@ most = bits 0x3ff8000000000000
 abbrev cut : Float
 cut = bits 0x3fda000000000000
 
-zero-product : nought ≡ nought ⊗ L ⊕ nought
+zero-product : plusZero ≡ plusZero ⊗ L ⊕ plusZero
 unfolding ofBits mul add
 zero-product = refl
 
-pub ln1p-low : (u : Float) → fromLeast u ≡ true → toMost u ≡ true → lt u cut ≡ true → series u nought nought ≡ ln1p u
+pub ln1p-low : (u : Float) → fromLeast u ≡ true → toMost u ≡ true → lt u cut ≡ true → series u plusZero plusZero ≡ ln1p u
 unfolding ln1p
-ln1p-low u a b c = ap (series u nought) zero-product ∙ rw (a, b, c)
+ln1p-low u a b c = ap (series u plusZero) zero-product ∙ rw (a, b, c)
 
-pub ln1p-high : (u m k r : Float) → fromLeast u ≡ true → toMost u ≡ true → lt u cut ≡ false → (m ≡ mantissa (one ⊕ u)) × (k ≡ exponent (one ⊕ u))
+pub ln1p-high : (u m k r : Float) → fromLeast u ≡ true → toMost u ≡ true → lt u cut ≡ false → (m ≡ significand (one ⊕ u)) × (k ≡ exponent (one ⊕ u))
     → r ≡ series (m ⊖ one) k (k ⊗ L ⊕ (u ⊖ (one ⊕ u ⊖ one)) ⊘ (one ⊕ u)) → r ≡ ln1p u
 unfolding ln1p
 ln1p-high u m k r a b l e h = h ∙ rw (e .0, e .1, a, b, l)
 
-pub ln1p-over : (u : Float) → fromLeast u ≡ true → toMost u ≡ false → nought ⊘ nought ≡ ln1p u
+pub ln1p-over : (u : Float) → fromLeast u ≡ true → toMost u ≡ false → plusZero ⊘ plusZero ≡ ln1p u
 unfolding ln1p
 ln1p-over u a b = zero-by-zero ∙ rw (a, b)
 
-pub ln1p-under : (u : Float) → fromLeast u ≡ false → nought ⊘ nought ≡ ln1p u
+pub ln1p-under : (u : Float) → fromLeast u ≡ false → plusZero ⊘ plusZero ≡ ln1p u
 unfolding ln1p
 ln1p-under u a = zero-by-zero ∙ rw a
 

@@ -15,7 +15,7 @@ use lib.Ieee.{size}
 use lib.Ieee.Digits.{size-le}
 use lib.Ieee.Nearest.{div-same}
 use Rattle.arithmetic.specs.declared.pair.Pair.{Pair}
-use Rattle.arithmetic.specs.Words.{val, jammed}
+use Rattle.arithmetic.specs.Internal.Pair.{val, jammed}
 use Rattle.arithmetic.specs.Laws.Numbers.{same-ltb, lt-or-le, pow-split, mul-lt-pow, size-is}
 
 -- (n + 1) * K

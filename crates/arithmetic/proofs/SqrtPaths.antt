@@ -23,13 +23,13 @@ use Rattle.arithmetic.specs.Laws.SqrtScaling.{units-times}
 use Rattle.arithmetic.specs.Laws.SqrtNearest.{sqrt-fits}
 use Rattle.arithmetic.specs.Laws.SqrtBounds.{sqrt-positive}
 use Rattle.arithmetic.specs.Laws.PowersOfTwo.{times-fraction}
-use Rattle.arithmetic.specs.Laws.Own.{round-self}
+use Rattle.arithmetic.specs.Laws.Representable.{round-self}
 use Rattle.arithmetic.specs.Operations.{_⊗_}
 use Rattle.arithmetic.specs.Sqrt.{sqrtUnits, sqrt}
 use Rattle.arithmetic.specs.Laws.Patterns.{signed-is, at-zero, above-zero, subnormal, normal, built, no-nan, bitsAt, bits-of}
 use Rattle.arithmetic.specs.Laws.WholeRoots.{units-at}
 use Rattle.arithmetic.specs.Laws.SqrtValues.{sqrt-of, sqrt-below}
-use Rattle.arithmetic.proofs.RootDigits.{Closest}
+use Rattle.arithmetic.proofs.SqrtDigits.{Closest}
 
 -- ---- NaN, the infinity, and the two zeros
 at-nan : sqrt nan ≡ nan

@@ -6,10 +6,10 @@ use lib.Ieee.Scale.{finite}
 use Rattle.arithmetic.specs.Operations.{_⊕_, _⊗_, _⊘_, one}
 
 -- the sign: true for what is written with a minus, -0 among them
-abbrev pub minus? : Float → Bool
-minus? nan = false
-minus? (inf s) = s
-minus? (fin s m e) = s
+abbrev pub isSignMinus : Float → Bool
+isSignMinus nan = false
+isSignMinus (inf s) = s
+isSignMinus (fin s m e) = s
 
 -- the same magnitude with the sign clear
 unfoldable pub abs : Float → Float
@@ -31,18 +31,18 @@ trunc (inf s) = inf s
 trunc (fin s m e) = round binary64 s (m * up e / down e) 1
 
 -- whether `max` takes x rather than y: the larger, and of two that are equal, which may be zeros, x where its sign is clear
-abbrev pub takes : Bool → Bool → Bool → Bool
-takes l g s = cond l false (cond g true (not s))
+abbrev pub takesFirstBy : Bool → Bool → Bool → Bool
+takesFirstBy l g s = cond l false (cond g true (not s))
 
-abbrev pub over : Float → Float → Bool
-over x y = takes (lt x y) (lt y x) (minus? x)
+abbrev pub takesFirst : Float → Float → Bool
+takesFirst x y = takesFirstBy (lt x y) (lt y x) (isSignMinus x)
 
 -- the larger and the smaller of two; a NaN is dropped; of two zeros `max` is +0 if either is, and `min` -0 if either is
 unfoldable pub max : Float → Float → Float
-max x y = cond (isNan x) y (cond (isNan y) x (cond (over x y) x y))
+max x y = cond (isNan x) y (cond (isNan y) x (cond (takesFirst x y) x y))
 
 unfoldable pub min : Float → Float → Float
-min x y = cond (isNan x) y (cond (isNan y) x (cond (over x y) y x))
+min x y = cond (isNan x) y (cond (isNan y) x (cond (takesFirst x y) y x))
 
 abbrev pub recip : Float → Float
 recip x = one ⊘ x

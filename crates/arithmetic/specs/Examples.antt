@@ -5,10 +5,10 @@ use mathlib.Core.Bool.{true, false}
 use lib.IntN.{pos, negsuc}
 use lib.Dec.{T, eqb}
 use lib.Ieee.{Float, nan, inf, fin, mul, ofBits}
-use Rattle.arithmetic.specs.Operations.{_⊗_, bits, nought, one, two}
+use Rattle.arithmetic.specs.Operations.{_⊗_, bits, plusZero, one, two}
 use Rattle.arithmetic.specs.Sqrt.{sqrt}
 use Rattle.arithmetic.specs.MulAdd.{mulAdd}
-use Rattle.arithmetic.specs.Exp.{highest, lowest, exp}
+use Rattle.arithmetic.specs.Exp.{oThreshold, uThreshold, exp}
 use Rattle.arithmetic.specs.Ln.{ln, ln1p}
 use Rattle.arithmetic.specs.Laws.Times.{Times}
 
@@ -44,7 +44,7 @@ unfolding mulAdd
 fused-controls = (refl, refl, refl, refl, refl, refl, refl, refl, refl, refl, refl)
 
 -- e; the smallest result above zero, for which k is -1075; the largest, for which k is 1024
-pub exp-values : (exp one ≡ bits 0x4005_bf0a_8b14_576a) × (exp lowest ≡ bits 1) × (exp highest ≡ bits 0x7fef_ffff_ffff_ff2a)
+pub exp-values : (exp one ≡ bits 0x4005_bf0a_8b14_576a) × (exp uThreshold ≡ bits 1) × (exp oThreshold ≡ bits 0x7fef_ffff_ffff_ff2a)
 unfolding exp
 exp-values = (refl, refl, refl)
 
@@ -60,8 +60,8 @@ unfolding ln
 ln-values = (refl, refl, refl, refl, refl, refl, refl, refl)
 
 -- both ends of the range, the cut at 0.40625, and a value outside; ln1p of -0 is +0
-pub ln1p-values : (ln1p nought ≡ nought)
-    × (ln1p (fin true 0 (pos 0)) ≡ nought)
+pub ln1p-values : (ln1p plusZero ≡ plusZero)
+    × (ln1p (fin true 0 (pos 0)) ≡ plusZero)
     × (ln1p (bits 0xbfd0_0000_0000_0000) ≡ bits 0xbfd2_6962_1134_db92)
     × (ln1p (bits 0x3fda_0000_0000_0000) ≡ bits 0x3fd5_d1bd_bf58_09ca)
     × (ln1p (bits 0x3ff8_0000_0000_0000) ≡ bits 0x3fed_5240_f0e0_e078)

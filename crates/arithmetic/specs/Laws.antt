@@ -1,15 +1,16 @@
 -- Facts about the definitions, which the proofs here and the layers above cite.
 pub mod Numbers
+pub mod Choices
 pub mod Ratio
 pub mod Times
 pub mod Patterns
 pub mod Rounding
-pub mod Own
+pub mod Representable
 pub mod Compare
 pub mod Sums
 pub mod Products
 pub mod Extremes
-pub mod Halves
+pub mod ScaledRatios
 pub mod WholeRoots
 pub mod SqrtValues
 pub mod SqrtScaling

@@ -5,8 +5,8 @@ use lib.Dec.{ltb}
 use lib.Ieee.{Float, nan, inf, binary64, low, minus, size, round, add, sub, mul, div, ofInt, isNan, lt, eq, le, ofBits}
 use lib.Ieee.Scale.{finite}
 use lib.Ieee.Positive.{num, den}
-use Rattle.arithmetic.specs.Exp.{ln2High as H, ln2Low as L}
-use Rattle.arithmetic.specs.Operations.{_⊕_, _⊖_, _⊗_, _⊘_, bits, nought, half, one, two}
+use Rattle.arithmetic.specs.Exp.{ln2Hi as H, ln2Lo as L}
+use Rattle.arithmetic.specs.Operations.{_⊕_, _⊖_, _⊗_, _⊘_, bits, plusZero, half, one, two}
 
 -- 01's G1 to G7
 abbrev pub G1 : Float
@@ -41,9 +41,9 @@ unfolding size
 place a = cond (ltb (a * 2 ^ 20) (741455 * 2 ^ size a)) (size a - 1) (size a)
 
 -- m and k: for a and p as above x is a / 2 ^ 1074 = a / 2 ^ p * 2 ^ (p - 1074)
-unfoldable pub mantissa : Float → Float
+unfoldable pub significand : Float → Float
 unfolding place round
-mantissa x = round binary64 false (inUnits x) (2 ^ place (inUnits x))
+significand x = round binary64 false (inUnits x) (2 ^ place (inUnits x))
 
 unfoldable pub exponent : Float → Float
 unfolding place ofInt
@@ -62,11 +62,11 @@ series f k kl =
 
 -- zeros give -infinity, NaN and what is below 0 NaN, infinity itself
 unfoldable pub ln : Float → Float
-unfolding series mantissa exponent isNan lt eq
+unfolding series significand exponent isNan lt eq
 ln x =
     let k = exponent x in
-    let f = mantissa x ⊖ one in
-    cond (eq x nought) (inf true) (cond (isNan x || lt x nought) nan (cond (finite x) (series f k (k ⊗ L)) x))
+    let f = significand x ⊖ one in
+    cond (eq x plusZero) (inf true) (cond (isNan x || lt x plusZero) nan (cond (finite x) (series f k (k ⊗ L)) x))
 
 -- the range of `ln_1p`, both ends inside: not below -0.25, and not above 1.5
 abbrev pub fromLeast : Float → Bool
@@ -77,12 +77,12 @@ toMost u = le u (bits 0x3FF8_0000_0000_0000)
 
 -- the logarithm of 1 + u, for a u in the range; 3FDA000000000000 is 0.40625
 unfoldable pub ln1p : Float → Float
-unfolding series mantissa exponent lt le
+unfolding series significand exponent lt le
 ln1p u =
     let v = one ⊕ u in
     let k = exponent v in
-    let f = mantissa v ⊖ one in
+    let f = significand v ⊖ one in
     let c = (u ⊖ (v ⊖ one)) ⊘ v in
     cond (fromLeast u && toMost u)
-    (cond (lt u (bits 0x3FDA_0000_0000_0000)) (series u nought (nought ⊗ L ⊕ nought)) (series f k (k ⊗ L ⊕ c)))
+    (cond (lt u (bits 0x3FDA_0000_0000_0000)) (series u plusZero (plusZero ⊗ L ⊕ plusZero)) (series f k (k ⊗ L ⊕ c)))
     nan

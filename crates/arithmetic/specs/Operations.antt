@@ -1,4 +1,4 @@
--- The operations of binary64 as operators, and the constants that the source names. Definitions only.
+-- The operations of binary64 as operators, and Rust's constants that the source names. Definitions only.
 use Prim.Native.Nat.{ℕ}
 use lib.Ieee.{Float, binary64, add, sub, mul, div, ofBits}
 
@@ -23,8 +23,8 @@ _⊘_ x y = div binary64 x y
 abbrev pub bits : ℕ → Float
 bits b = ofBits binary64 b
 
-abbrev pub nought : Float
-nought = bits 0
+abbrev pub plusZero : Float
+plusZero = bits 0
 
 abbrev pub half : Float
 half = bits 0x3FE0_0000_0000_0000
@@ -47,3 +47,10 @@ infinity = bits 0x7FF0_0000_0000_0000
 
 abbrev pub epsilon : Float
 epsilon = bits 0x3CB0_0000_0000_0000
+
+-- `SQRT_2` and `FRAC_1_SQRT_2` of `core::f64::consts`
+abbrev pub sqrt2 : Float
+sqrt2 = bits 0x3FF6_A09E_667F_3BCD
+
+abbrev pub frac1Sqrt2 : Float
+frac1Sqrt2 = bits 0x3FE6_A09E_667F_3BCD

@@ -4,8 +4,8 @@ ghost use mathlib.Core.Bool.{not};
 ghost use Prim.Native.Nat.{_^_, _≤_};
 ghost use lib.Dec.{T};
 ghost use lib.Ieee.{binary64, isNan, round};
-ghost use Rattle.arithmetic.specs.Basic.{abs, signum, trunc, over, max, min, recip, isFinite, isInfinite};
-ghost use Rattle.arithmetic.specs.WholePart.{wholePart};
+ghost use Rattle.arithmetic.specs.Basic.{abs, signum, trunc, takesFirst, max, min, recip, isFinite, isInfinite};
+ghost use Rattle.arithmetic.specs.Internal.WholePart.{wholePart};
 
 // Of NaN, NaN: as a quotient, since for a cheaper operation the compiler computes both results and
 // picks one, which takes longer than the test.
@@ -49,7 +49,7 @@ pub(crate) fn whole_part(x: f64) -> u64
 }
 
 // n with a sign, which a zero keeps.
-pub(crate) fn signed(negative: bool, n: u64) -> f64
+pub(crate) fn signed_integer(negative: bool, n: u64) -> f64
     requires { ⌜ n ≤ 2 ^ 53 ⌝ }
     ensures { λ r. ⌜ r ≡ round binary64 negative n 1 ⌝ }
 {
@@ -78,7 +78,7 @@ pub fn trunc(x: f64) -> f64
 // Whether `max` takes x: the larger, and of two that are equal x where its sign is clear.
 fn takes_first(x: f64, y: f64) -> bool
     requires { ⌜ T (not (isNan x)) ⌝ }
-    ensures { λ r. ⌜ r ≡ over x y ⌝ }
+    ensures { λ r. ⌜ r ≡ takesFirst x y ⌝ }
 {
     if x < y {
         return false;

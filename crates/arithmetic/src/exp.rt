@@ -5,25 +5,25 @@ ghost use Prim.Native.Nat.{_+_, _-_, _^_, _<_};
 ghost use lib.Dec.{T};
 ghost use lib.Ieee.{binary64, minus, mul};
 ghost use lib.Ieee.Exact.{HasValue};
-ghost use Rattle.arithmetic.specs.Exp.{halfAway, reduced, scaled, exp};
-ghost use Rattle.arithmetic.specs.ExpSteps.{ordinary, near};
-use super::basic::signed;
+ghost use Rattle.arithmetic.specs.Exp.{halfAway, reduced, scaleB, exp};
+ghost use Rattle.arithmetic.specs.Internal.Exp.{inFastRange, clearOfTie};
+use super::basic::signed_integer;
 use super::basic::whole_part;
 
 // The sum of the two is ln 2: a k of 11 bits times LN2_HIGH is exact.
-pub(crate) const LN2_HIGH: f64 = 0.6931471803691238;
+pub(crate) const LN2_HI: f64 = 0.6931471803691238;
 
-pub(crate) const LN2_LOW: f64 = 0.00000000019082149292705877;
+pub(crate) const LN2_LO: f64 = 0.00000000019082149292705877;
 
-const PER_LN2: f64 = 1.4426950408889634;
+const INVLN2: f64 = 1.4426950408889634;
 
 // Above the first the result is infinite, and below the second it is 0.
-const HIGHEST: f64 = 709.782712893384;
+const O_THRESHOLD: f64 = 709.782712893384;
 
-const LOWEST: f64 = -745.1332191019411;
+const U_THRESHOLD: f64 = -745.1332191019411;
 
 // For an x of smaller magnitude 2^k is a normal number.
-const ORDINARY: f64 = 708.0;
+const FAST_LIMIT: f64 = 708.0;
 
 // 3 * 2^51 + 1023. The sum of x / ln 2 and this is a whole number; its last bits are k + 1023, for
 // the nearest k.
@@ -31,13 +31,13 @@ const SHIFT: f64 = 6755399441056767.0;
 
 // 1/2 - 2^-16. Where x / ln 2 differs less from k, k is also what truncation gives after the half
 // is added.
-const NEAR: f64 = 0.4999847412109375;
+const MAX_REST: f64 = 0.4999847412109375;
 
 // x / ln 2, and a half away from zero.
 fn half_away(negative: bool, x: f64) -> f64
     ensures { λ r. ⌜ r ≡ halfAway negative x ⌝ }
 {
-    let w = x * PER_LN2;
+    let w = x * INVLN2;
     if negative { w - 0.5 } else { w + 0.5 }
 }
 
@@ -45,8 +45,8 @@ fn half_away(negative: bool, x: f64) -> f64
 fn reduced(x: f64, k: f64) -> f64
     ensures { λ r. ⌜ r ≡ reduced x k ⌝ }
 {
-    let h = x - k * LN2_HIGH;
-    let l = k * LN2_LOW;
+    let h = x - k * LN2_HI;
+    let l = k * LN2_LO;
     let r = h - l;
     let q = r * r;
     let c = r
@@ -76,9 +76,9 @@ fn power(e: u64) -> f64
 
 // y * 2^(e - 1075), rounded once. At the first and the last e the power is no f64. There the first
 // of two products is exact, or infinite as the result is, or too small to count.
-fn scale(y: f64, e: u64) -> f64
+fn scale_b(y: f64, e: u64) -> f64
     requires { ⌜ e < 2100 ⌝ }
-    ensures { λ r. ⌜ r ≡ scaled y (minus e 1075) ⌝ }
+    ensures { λ r. ⌜ r ≡ scaleB y (minus e 1075) ⌝ }
 {
     if e == 0 {
         return y * 0.5 * power(1);
@@ -90,7 +90,7 @@ fn scale(y: f64, e: u64) -> f64
 }
 
 // 1075 + k, for a k of magnitude n.
-fn exponent(negative: bool, n: u64) -> u64
+fn biased_exponent(negative: bool, n: u64) -> u64
     requires { ⌜ n < 1076 ⌝ }
     ensures { λ r. ⌜ r ≡ cond negative (1075 - n) (1075 + n) ⌝ }
 {
@@ -104,39 +104,42 @@ fn general(x: f64) -> f64
     if x != x {
         return x;
     }
-    if x > HIGHEST {
+    if x > O_THRESHOLD {
         return f64::from_bits(0x7FF0_0000_0000_0000);
     }
-    if x < LOWEST {
+    if x < U_THRESHOLD {
         return 0.0;
     }
     let negative = 0x8000_0000_0000_0000 <= f64::to_bits(x);
     let n = whole_part(half_away(negative, x));
-    scale(reduced(x, signed(negative, n)), exponent(negative, n))
+    scale_b(
+        reduced(x, signed_integer(negative, n)),
+        biased_exponent(negative, n),
+    )
 }
 
 // Where this holds, 2^k is a normal number.
-fn is_ordinary(x: f64) -> bool
-    ensures { λ r. ⌜ r ≡ ordinary x ⌝ }
+fn is_in_fast_range(x: f64) -> bool
+    ensures { λ r. ⌜ r ≡ inFastRange x ⌝ }
 {
-    (x < ORDINARY) & (-ORDINARY < x)
+    (x < FAST_LIMIT) & (-FAST_LIMIT < x)
 }
 
 // Of an ordinary x: where this holds, the k that SHIFT gives is the k of `general`.
-fn is_near(x: f64) -> bool
-    ensures { λ r. ⌜ r ≡ near x ⌝ }
+fn is_clear_of_tie(x: f64) -> bool
+    ensures { λ r. ⌜ r ≡ clearOfTie x ⌝ }
 {
-    let w = x * PER_LN2;
+    let w = x * INVLN2;
     let rest = w - (w + SHIFT - SHIFT);
-    (rest < NEAR) & (-NEAR < rest)
+    (rest < MAX_REST) & (-MAX_REST < rest)
 }
 
 // e^x, with k from the sum with SHIFT.
-fn plain(x: f64) -> f64
-    requires { ⌜ T (ordinary x) ⌝ ∗ ⌜ T (near x) ⌝ }
+fn fast(x: f64) -> f64
+    requires { ⌜ T (inFastRange x) ⌝ ∗ ⌜ T (clearOfTie x) ⌝ }
     ensures { λ r. ⌜ r ≡ exp x ⌝ }
 {
-    let t = x * PER_LN2 + SHIFT;
+    let t = x * INVLN2 + SHIFT;
     let field = f64::to_bits(t) - 0x4338_0000_0000_0000;
     reduced(x, t - SHIFT) * f64::from_bits(field * 4503599627370496)
 }
@@ -144,9 +147,9 @@ fn plain(x: f64) -> f64
 pub fn exp(x: f64) -> f64
     ensures { λ r. ⌜ r ≡ exp x ⌝ }
 {
-    if is_ordinary(x) {
-        if is_near(x) {
-            return plain(x);
+    if is_in_fast_range(x) {
+        if is_clear_of_tie(x) {
+            return fast(x);
         }
     }
     general(x)
@@ -156,9 +159,9 @@ pub fn exp(x: f64) -> f64
 pub fn exp_product(x: f64, y: f64) -> f64
     ensures { λ r. ⌜ r ≡ mul binary64 (exp x) (exp y) ⌝ }
 {
-    if is_ordinary(x) & is_ordinary(y) {
-        if is_near(x) & is_near(y) {
-            return plain(x) * plain(y);
+    if is_in_fast_range(x) & is_in_fast_range(y) {
+        if is_clear_of_tie(x) & is_clear_of_tie(y) {
+            return fast(x) * fast(y);
         }
     }
     exp(x) * exp(y)

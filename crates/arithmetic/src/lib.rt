@@ -1,5 +1,6 @@
 // Layer one: the arithmetic of binary64 that no operator gives.
 pub mod basic;
+pub mod constants;
 pub mod exp;
 pub mod format;
 pub mod fused_multiply_add;

@@ -5,9 +5,9 @@ ghost use lib.Dec.{T};
 ghost use lib.Ieee.{binary64, minus, ofInt};
 ghost use lib.Ieee.Positive.{positive};
 ghost use Rattle.arithmetic.specs.Operations.{bits};
-ghost use Rattle.arithmetic.specs.Ln.{mantissa, exponent, series, ln, ln1p};
-use super::exp::LN2_HIGH;
-use super::exp::LN2_LOW;
+ghost use Rattle.arithmetic.specs.Ln.{significand, exponent, series, ln, ln1p};
+use super::exp::LN2_HI;
+use super::exp::LN2_LO;
 
 const G1: f64 = 6.666666666666735130e-01;
 
@@ -24,34 +24,34 @@ const G6: f64 = 1.531383769920937332e-01;
 const G7: f64 = 1.479819860511658591e-01;
 
 // The number m * 2^k, for a whole k.
-pub struct Scaled {
+pub struct Decomposed {
     pub m: f64,
     pub k: f64,
 }
 
 // m and k by the bits b of m * 2^k, whose exponent's field is counted from 52 on. That field has a new
 // value from each power of two on, and k from 3FE6A09E00000000 times it, so b is moved down first.
-fn fields(b: u64) -> Scaled
+fn decompose_bits(b: u64) -> Decomposed
     requires { ⌜ 4503599627370496 ≤ b ⌝ }
     ensures { λ r. ⌜ (r .m ≡ bits ((b - 0x6a09e00000000) % 4503599627370496 + 0x3fe6a09e00000000)) × (r .k ≡ ofInt binary64 (minus ((b - 0x6a09e00000000) / 4503599627370496) 1074)) ⌝ }
 {
     let t = b - 0x0006_a09e_0000_0000;
-    Scaled {
+    Decomposed {
         m: f64::from_bits(t % 4503599627370496 + 0x3fe6_a09e_0000_0000),
         k: ((t / 4503599627370496) as u32) as f64 - 1074.0,
     }
 }
 
 // x as m * 2^k. A subnormal x is multiplied by 2^52, and the field of the product counts from 52 on.
-fn split(x: f64) -> Scaled
+fn decompose(x: f64) -> Decomposed
     requires { ⌜ T (positive x) ⌝ }
-    ensures { λ r. ⌜ (r .m ≡ mantissa x) × (r .k ≡ exponent x) ⌝ }
+    ensures { λ r. ⌜ (r .m ≡ significand x) × (r .k ≡ exponent x) ⌝ }
 {
     let b = f64::to_bits(x);
     if b < 4503599627370496 {
-        return fields(f64::to_bits(x * 4503599627370496.0));
+        return decompose_bits(f64::to_bits(x * 4503599627370496.0));
     }
-    fields(b + 0x0340_0000_0000_0000)
+    decompose_bits(b + 0x0340_0000_0000_0000)
 }
 
 // The sum that both logarithms end with.
@@ -63,7 +63,7 @@ fn series(f: f64, k: f64, kl: f64) -> f64
     let w = z * z;
     let g = (0.5 * f) * f;
     let r = z * (G1 + w * (G3 + w * (G5 + w * G7))) + w * (G2 + w * (G4 + w * G6));
-    s * (g + r) + kl - g + f + k * LN2_HIGH
+    s * (g + r) + kl - g + f + k * LN2_HI
 }
 
 pub fn ln(x: f64) -> f64
@@ -76,8 +76,8 @@ pub fn ln(x: f64) -> f64
         return 0.0 / 0.0;
     }
     if x < f64::from_bits(0x7ff0_0000_0000_0000) {
-        let p = split(x);
-        return series(p.m - 1.0, p.k, p.k * LN2_LOW);
+        let p = decompose(x);
+        return series(p.m - 1.0, p.k, p.k * LN2_LO);
     }
     // the infinity, or NaN
     x
@@ -93,8 +93,8 @@ pub fn ln_1p(u: f64) -> f64
                 return series(u, 0.0, 0.0);
             }
             let v = 1.0 + u;
-            let p = split(v);
-            return series(p.m - 1.0, p.k, p.k * LN2_LOW + (u - (v - 1.0)) / v);
+            let p = decompose(v);
+            return series(p.m - 1.0, p.k, p.k * LN2_LO + (u - (v - 1.0)) / v);
         }
         return 0.0 / 0.0;
     }

@@ -7,8 +7,8 @@ ghost use lib.Ieee as Ieee;
 ghost use lib.Ieee.{binary64};
 ghost use lib.Ieee.Scale.{finite};
 ghost use lib.Ieee.Nearest.{closest};
-ghost use Rattle.arithmetic.specs.Words.{val};
-ghost use Rattle.arithmetic.specs.Steps.{exponents, keptExponents, Decoded, Exponent, Operands, Aligned, Shortened};
+ghost use Rattle.arithmetic.specs.Internal.Pair.{val};
+ghost use Rattle.arithmetic.specs.Internal.MulAdd.{exponentBound, keptExponentBound, Decoded, ProductExponent, Operands, Aligned, IsGuarded};
 ghost use Rattle.arithmetic.specs.MulAdd.{mulAdd};
 use super::basic::is_finite;
 use super::format::EXPONENT_FIELD;
@@ -44,7 +44,7 @@ pub struct Terms {
 }
 
 // m / 4 * 2^k, for an m of at most 55 digits.
-pub struct Short {
+pub struct Guarded {
     pub m: u64,
     pub k: u64,
 }
@@ -115,35 +115,35 @@ fn align(p: Pair, ep: u64, m: u64, em: u64) -> Terms
 
 // v * 2^e, in units of 2^-2148, cut down to the digits that a result keeps and two more, the last
 // of them jammed.
-fn shorten(v: Pair, e: u64) -> Short
-    requires { ⌜ e < exponents ⌝ }
-    ensures { λ r. ⌜ Shortened (val v * 2 ^ e) r ⌝ }
+fn to_guarded(v: Pair, e: u64) -> Guarded
+    requires { ⌜ e < exponentBound ⌝ }
+    ensures { λ r. ⌜ IsGuarded (val v * 2 ^ e) r ⌝ }
 {
     let n = pair::digits(v);
     if n == 0 {
-        return Short { m: 0, k: 0 };
+        return Guarded { m: 0, k: 0 };
     }
     if n + e < NORMAL_DIGITS {
-        cut(v, n, e, LOWEST)
+        to_guarded_above(v, n, e, LOWEST)
     } else {
-        cut(v, n, e, n + e - PRECISION)
+        to_guarded_above(v, n, e, n + e - PRECISION)
     }
 }
 
 // The same, for a v of n digits, above the place `at`.
-fn cut(v: Pair, n: u64, e: u64, at: u64) -> Short
-    requires { ⌜ n ≡ Ieee.size (val v) ⌝ ∗ ⌜ 0 < n ⌝ ∗ ⌜ e < exponents ⌝ ∗ ⌜ at ≡ 1074 + (n + e - 1127) ⌝ }
-    ensures { λ r. ⌜ Shortened (val v * 2 ^ e) r ⌝ }
+fn to_guarded_above(v: Pair, n: u64, e: u64, at: u64) -> Guarded
+    requires { ⌜ n ≡ Ieee.size (val v) ⌝ ∗ ⌜ 0 < n ⌝ ∗ ⌜ e < exponentBound ⌝ ∗ ⌜ at ≡ 1074 + (n + e - 1127) ⌝ }
+    ensures { λ r. ⌜ IsGuarded (val v * 2 ^ e) r ⌝ }
 {
     if e + 2 <= at {
         let m = pair::jam(v, at - e - 2);
-        Short {
+        Guarded {
             m: m.lo,
             k: at - LOWEST,
         }
     } else {
         let m = pair::up(v, e + 2 - at);
-        Short {
+        Guarded {
             m: m.lo,
             k: at - LOWEST,
         }
@@ -151,7 +151,7 @@ fn cut(v: Pair, n: u64, e: u64, at: u64) -> Short
 }
 
 // m / 4 to the nearest whole number, a tie to the even one.
-fn quarter(m: u64) -> u64
+fn round_guarded(m: u64) -> u64
     requires { ⌜ m < 2 ^ 55 ⌝ }
     ensures { λ r. ⌜ r ≡ closest m 4 ⌝ }
 {
@@ -167,7 +167,7 @@ fn quarter(m: u64) -> u64
 }
 
 // The value with a sign and the rest of the bits.
-fn signed(negative: bool, magnitude: u64) -> f64
+fn with_sign(negative: bool, magnitude: u64) -> f64
     requires { ⌜ magnitude ≤ 2047 * 2 ^ 52 ⌝ }
     ensures { λ r. ⌜ r ≡ Ieee.ofBits binary64 (cond negative (2 ^ 63) 0 + magnitude) ⌝ }
 {
@@ -180,23 +180,23 @@ fn signed(negative: bool, magnitude: u64) -> f64
 
 // m / 4 * 2^k units of 2^-1074, rounded to a whole number times 2^k.
 fn pack(negative: bool, m: u64, k: u64) -> f64
-    requires { ⌜ m < 2 ^ 55 ⌝ ∗ ⌜ k < keptExponents ⌝ ∗ ⌜ (0 < k → 2 ^ 54 ≤ m) ⌝ }
+    requires { ⌜ m < 2 ^ 55 ⌝ ∗ ⌜ k < keptExponentBound ⌝ ∗ ⌜ (0 < k → 2 ^ 54 ≤ m) ⌝ }
     ensures { λ r. ⌜ r ≡ Ieee.units binary64 negative (closest m 4) k ⌝ }
 {
-    let magnitude = (k << FRACTION_DIGITS) + quarter(m);
+    let magnitude = (k << FRACTION_DIGITS) + round_guarded(m);
     if magnitude < INFINITY {
-        signed(negative, magnitude)
+        with_sign(negative, magnitude)
     } else {
-        signed(negative, INFINITY)
+        with_sign(negative, INFINITY)
     }
 }
 
 // v * 2^e, in units of 2^-2148, rounded.
-fn rounded(negative: bool, v: Pair, e: u64) -> f64
-    requires { ⌜ e < exponents ⌝ }
+fn round_magnitude(negative: bool, v: Pair, e: u64) -> f64
+    requires { ⌜ e < exponentBound ⌝ }
     ensures { λ r. ⌜ r ≡ Ieee.round binary64 negative (val v * 2 ^ e) (2 ^ 2148) ⌝ }
 {
-    let n = shorten(v, e);
+    let n = to_guarded(v, e);
     pack(negative, n.m, n.k)
 }
 
@@ -208,26 +208,26 @@ fn both(s: bool, t: bool) -> bool
 }
 
 // The sum of two terms with their signs, rounded.
-fn total(s: bool, t: bool, w: Terms) -> f64
-    requires { ⌜ val (w .a) < 2 ^ 127 ⌝ ∗ ⌜ val (w .b) < 2 ^ 127 ⌝ ∗ ⌜ w .e < exponents ⌝ }
+fn sum_terms(s: bool, t: bool, w: Terms) -> f64
+    requires { ⌜ val (w .a) < 2 ^ 127 ⌝ ∗ ⌜ val (w .b) < 2 ^ 127 ⌝ ∗ ⌜ w .e < exponentBound ⌝ }
     ensures { λ r. ⌜ r ≡ Ieee.sum binary64 s (val (w .a) * 2 ^ w .e) t (val (w .b) * 2 ^ w .e) (2 ^ 2148) ⌝ }
 {
     let a = w.a;
     let b = w.b;
     let e = w.e;
     if s == t {
-        rounded(s, pair::add(a, b), e)
+        round_magnitude(s, pair::add(a, b), e)
     } else if pair::less(a, b) {
-        rounded(t, pair::sub(b, a), e)
+        round_magnitude(t, pair::sub(b, a), e)
     } else {
-        rounded(both(s, pair::less(b, a)), pair::sub(a, b), e)
+        round_magnitude(both(s, pair::less(b, a)), pair::sub(a, b), e)
     }
 }
 
 // The product's exponent: 0 for a product that is 0.
-fn exponent(u: Parts, v: Parts) -> u64
+fn product_exponent(u: Parts, v: Parts) -> u64
     requires { ⌜ u .j < 2046 ⌝ ∗ ⌜ v .j < 2046 ⌝ ∗ ⌜ (0 < u .j → 2 ^ 52 ≤ u .m) ⌝ ∗ ⌜ (0 < v .j → 2 ^ 52 ≤ v .m) ⌝ }
-    ensures { λ r. ⌜ Exponent u v r ⌝ }
+    ensures { λ r. ⌜ ProductExponent u v r ⌝ }
 {
     if u.m == 0 {
         0
@@ -249,8 +249,8 @@ pub fn mul_add(x: f64, a: f64, b: f64) -> f64
                 let v = decode(a);
                 let w = decode(b);
                 let p = pair::product(u.m, v.m);
-                let terms = align(p, exponent(u, v), w.m, w.j + LOWEST);
-                total(u.negative != v.negative, w.negative, terms)
+                let terms = align(p, product_exponent(u, v), w.m, w.j + LOWEST);
+                sum_terms(u.negative != v.negative, w.negative, terms)
             } else {
                 b
             }

@@ -4,7 +4,7 @@ ghost use mathlib.Core.Path.{_≡_};
 ghost use Prim.Native.Nat.{_+_, _-_, _*_, _/_, _^_, _≤_, _<_};
 ghost use lib.Dec.{ltb};
 ghost use lib.Ieee as Ieee;
-ghost use Rattle.arithmetic.specs.Words.{val, jammed};
+ghost use Rattle.arithmetic.specs.Internal.Pair.{val, jammed};
 
 // The number hi * 2^64 + lo.
 pub struct Pair {

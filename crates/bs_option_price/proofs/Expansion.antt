@@ -3,7 +3,7 @@ use mathlib.Core.Path.{_≡_, sym, ap}
 use Prim.Native.Nat.{ℕ, suc, _-_, _<_}
 use borrow.Author.Tests.{lt-ltb}
 use lib.Ieee.{Float}
-use Rattle.arithmetic.specs.Operations.{_⊗_, nought}
+use Rattle.arithmetic.specs.Operations.{_⊗_, plusZero}
 use Rattle.special_function.specs.Polynomial.{nested}
 use Rattle.bs_option_price.specs.Table.{row}
 use Rattle.bs_option_price.specs.BsOptionPrice.{a, term, omegaOverQ, tail}
@@ -13,7 +13,7 @@ unfolding a
 row-at n k e h = ap (λ (m : ℕ). nested e (row m)) (sym h)
 
 module _ (idx : ℕ) (q e : Float) where
-  pub first-term : {r : Float} → r ≡ term idx 0 nought q (a 16 e) → r ≡ omegaOverQ idx q e 1
+  pub first-term : {r : Float} → r ≡ term idx 0 plusZero q (a 16 e) → r ≡ omegaOverQ idx q e 1
   unfolding omegaOverQ
   first-term step = step
 

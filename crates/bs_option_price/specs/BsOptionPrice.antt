@@ -4,11 +4,11 @@ use mathlib.Core.Bool.{Bool, _&&_, _||_, cond}
 use mathlib.Core.List.{List, [], _∷_}
 use lib.Dec.{leb, ltb}
 use lib.Ieee.{Float, neg, lt, le, eq}
-use Rattle.arithmetic.specs.Operations.{_⊕_, _⊖_, _⊗_, _⊘_, bits, nought, half, one, two, minPositive}
+use Rattle.arithmetic.specs.Operations.{_⊕_, _⊖_, _⊗_, _⊘_, bits, plusZero, half, one, two, minPositive, frac1Sqrt2}
 use Rattle.arithmetic.specs.Basic.{max, min, recip, isInfinite, mulAdd2Sel}
 use Rattle.arithmetic.specs.Exp.{exp}
 use Rattle.arithmetic.specs.Ln.{ln, ln1p}
-use Rattle.special_function.specs.Constants.{frac1Sqrt2, frac1Sqrt2Pi, sqrtPiOver2}
+use Rattle.special_function.specs.Constants.{frac1Sqrt2Pi, sqrtPiOver2}
 use Rattle.special_function.specs.ErrorFunction.{erfcCody, erfcxCody}
 use Rattle.special_function.specs.Polynomial.{evaluate, nested}
 use Rattle.bs_option_price.specs.Table.{row}
@@ -30,7 +30,7 @@ isRegion1 h t = lt h eta && lt (t ⊕ h) (tau ⊕ half ⊕ eta)
 
 -- where the expansion for small t answers
 unfoldable pub isRegion2 : Float → Float → Bool
-isRegion2 h t = lt (mulAdd2Sel h (neg half ⊘ eta) (neg tau ⊕ t)) nought
+isRegion2 h t = lt (mulAdd2Sel h (neg half ⊘ eta) (neg tau ⊕ t)) plusZero
 
 -- ---- the asymptotic expansion
 
@@ -70,12 +70,12 @@ term idx last omega q coefficient = cond (leb idx last) (mulAdd2Sel omega q coef
 
 -- omega / q after the first n of these steps, whose coefficients are a16, a15, and so on down
 unfoldable pub omegaOverQ : ℕ → Float → Float → ℕ → Float
-omegaOverQ idx q e zero = nought
+omegaOverQ idx q e zero = plusZero
 omegaOverQ idx q e (suc n) = term idx n (omegaOverQ idx q e n) q (a (16 - n) e)
 
 -- what a16 to a5 add, below the last threshold
 unfoldable pub tail : ℕ → Float → Float → Float
-tail idx q e = cond (ltb idx 12) (q ⊗ omegaOverQ idx q e 12) nought
+tail idx q e = cond (ltb idx 12) (q ⊗ omegaOverQ idx q e 12) plusZero
 
 unfoldable pub omega : Float → Float → Float → Float
 omega tail q e = nested q ((a 4 e ⊕ tail) ∷ a 3 e ∷ a 2 e ∷ a 1 e ∷ a 0 e ∷ [])
@@ -217,7 +217,7 @@ unfoldable pub normalisedBlackWithOptimalUseOfCodysFunctionsImpl : Float → Flo
 normalisedBlackWithOptimalUseOfCodysFunctionsImpl halfThetaX h t expNegQ =
     let q1 = neg frac1Sqrt2 ⊗ (h ⊕ t) in
     let q2 = neg frac1Sqrt2 ⊗ (h ⊖ t) in
-    max (half ⊗ twoB halfThetaX q1 q2 expNegQ) nought
+    max (half ⊗ twoB halfThetaX q1 q2 expNegQ) plusZero
 
 unfoldable pub normalisedBlackWithOptimalUseOfCodysFunctions : Float → Float → Float → Float
 normalisedBlackWithOptimalUseOfCodysFunctions halfThetaX h t =
@@ -231,8 +231,8 @@ normalisedVega h t = frac1Sqrt2Pi ⊗ exp (neg half ⊗ mulAdd2Sel t t (h ⊗ h)
 
 unfoldable pub normalisedBlack : Float → Float → Float → Float
 normalisedBlack halfThetaX h t =
-    cond (eq t nought || isInfinite h)
-    nought
+    cond (eq t plusZero || isInfinite h)
+    plusZero
     (cond (isRegion1 h t)
     (asymptoticExpansionOfScaledNormalisedBlack h t ⊗ normalisedVega h t)
     (cond (isRegion2 h t)

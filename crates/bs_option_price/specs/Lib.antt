@@ -2,4 +2,3 @@
 pub mod Table
 pub mod BsOptionPrice
 pub mod Laws
-pub mod LawsMoneyness

@@ -89,16 +89,16 @@ unfolding doubleFactorial choose
 exactSize k j = 2 * doubleFactorial k * choose (2 * k + 1) (2 * j + 1)
 
 -- the value is n, below 0 where the sign is true, up to n / 10 ^ 14
-unfoldable pub near : Bool → ℕ → Float → Bool
-near s n nan = false
-near s n (inf t) = false
-near s n (fin t m e) =
+unfoldable pub withinTolerance : Bool → ℕ → Float → Bool
+withinTolerance s n nan = false
+withinTolerance s n (inf t) = false
+withinTolerance s n (fin t m e) =
     Bool·beq s t && leb ((m * up e - n * down e + (n * down e - m * up e)) * 10 ^ 14) (n * down e)
 
 -- the rule at the coefficient of e ^ j in ak: 2 · (2k - 1)!! · C (2k + 1, 2j + 1), with the sign of (-1) ^ k
-unfoldable pub right : ℕ → ℕ → Bool
-unfolding coefficient exactSize near
-right k j = near (eqb (k % 2) 1) (exactSize k j) (coefficient k j)
+unfoldable pub followsRule : ℕ → ℕ → Bool
+unfolding coefficient exactSize withinTolerance
+followsRule k j = withinTolerance (eqb (k % 2) 1) (exactSize k j) (coefficient k j)
 
 -- the pattern of that coefficient, and the pattern of the binary64 nearest to the exact one
 unfoldable pub entry : ℕ → ℕ → ℕ
@@ -115,9 +115,9 @@ allBelow zero test = true
 allBelow (suc n) test = test 0 && allBelow n (λ i. test (suc i))
 
 -- the rule at all 153 entries
-unfoldable pub allRight : Bool
-unfolding allBelow right
-allRight = allBelow 17 (λ k. allBelow (suc k) (right k))
+unfoldable pub allFollowRule : Bool
+unfolding allBelow followsRule
+allFollowRule = allBelow 17 (λ k. allBelow (suc k) (followsRule k))
 
 -- each entry is the nearest
 unfoldable pub allNearest : Bool

@@ -1,8 +1,8 @@
 -- What only the proofs of this crate cite: the loops' endings, the steps of the searches, and those of a quote.
-pub mod Scaling
-pub mod Doubling
-pub mod Halving
+pub mod Units
+pub mod DoublingEnds
+pub mod HalvingEnds
 pub mod Searches
 pub mod Starts
-pub mod Runs
-pub mod Limits
+pub mod BoundsMet
+pub mod Allowed

@@ -4,57 +4,57 @@ use Prim.Native.Nat.{ℕ, zero, suc}
 use mathlib.Core.Bool.{Bool, true, false, cond, _&&_}
 use lib.Dec.{T}
 use lib.Ieee.{Float, neg, lt}
-use Rattle.arithmetic.specs.Operations.{_⊗_, nought}
+use Rattle.arithmetic.specs.Operations.{_⊗_, plusZero}
 use Rattle.arithmetic.specs.Ln.{ln}
 use Rattle.special_function.specs.NormalDistribution.{inverseNormCdf}
 use Rattle.explicit_black.specs.declared.bracket.Bracket.{Bracket}
 use Rattle.explicit_black.specs.Counted.{Option, some, none, Counted, Sample, sample, atOnce, tick, then, someOf, orElse, Metered, have, spent, mapped, allSome, limited}
 use Rattle.explicit_black.specs.Loops.{Next, go, stop}
-use Rattle.explicit_black.specs.Curves.{proper, inverseGaussianCdf, inverseGaussianPdf, inverseGaussianSurvival, inverseGaussianQuantileInitialGuess, inverseGaussianQuantileInitialGuessFromZ, startingPoint}
-use Rattle.explicit_black.specs.Newton.{newtoning, last, start, first, later, steps, numerator, nrstep, inverseGaussianCdfStandardized, inverseGaussianQuantileActuar}
-use Rattle.explicit_black.specs.Quantile.{bracketAt, clamped, round, rounding, rounds, inverseGaussianQuantileBracketed, solvable, filtered, inverseGaussianQuantile}
-use Rattle.explicit_black.specs.Survival.{survivalBracketAt, survivalRound, survivalRounding, survivalRounds, survivalRoundsIn, survivalSearch, inverseGaussianQuantileFromSurvival}
-use Rattle.explicit_black.specs.LawsCounted.{Left, left-turn, left-stop, left-out, onward, limited-now, limited-none, limited-tick, limited-then, limited-some, then-spent, then-have, then-some, some-spent, spent-of, have-of, value-of, none-of}
+use Rattle.explicit_black.specs.Curves.{finitePositive, inverseGaussianCdf, inverseGaussianPdf, inverseGaussianSurvival, inverseGaussianQuantileInitialGuess, inverseGaussianQuantileInitialGuessFromZ, startingPoint}
+use Rattle.explicit_black.specs.Newton.{newtonLoop, last, initialX, first, later, steps, numerator, nrstep, inverseGaussianCdfStandardized, inverseGaussianQuantileActuar}
+use Rattle.explicit_black.specs.Quantile.{bracketAt, clamped, iteration, iterationLoop, iterations, inverseGaussianQuantileBracketed, solvable, filtered, inverseGaussianQuantile}
+use Rattle.explicit_black.specs.Survival.{survivalBracketAt, survivalIteration, survivalIterationLoop, survivalIterations, survivalIterationsIn, survivalSearch, inverseGaussianQuantileFromSurvival}
+use Rattle.explicit_black.specs.Laws.Counted.{Left, left-turn, left-stop, left-out, andThen, limited-now, limited-none, limited-tick, limited-then, limited-some, then-spent, then-have, then-some, some-spent, spent-of, have-of, value-of, none-of}
 
 -- ---- the starting point is finite and above 0
 
-pub start-proper : (guess mu x : Float) → proper mu ≡ true → x ≡ startingPoint guess mu → proper x ≡ true
+pub start-finite-positive : (guess mu x : Float) → finitePositive mu ≡ true → x ≡ startingPoint guess mu → finitePositive x ≡ true
 unfolding startingPoint
-start-proper guess mu x h e = ap proper e ∙ pick (proper guess) refl
+start-finite-positive guess mu x h e = ap finitePositive e ∙ pick (finitePositive guess) refl
   where
-    pick : (b : Bool) → proper guess ≡ b → proper (cond b guess mu) ≡ true
+    pick : (b : Bool) → finitePositive guess ≡ b → finitePositive (cond b guess mu) ≡ true
     pick true e = e
     pick false e = h
 
-pub solvable-proper : (p mu : Float) → solvable p mu ≡ true → proper mu ≡ true
-solvable-proper p mu e = third (lt nought p) (lt p _) (proper mu) e
+pub solvable-finite-positive : (p mu : Float) → solvable p mu ≡ true → finitePositive mu ≡ true
+solvable-finite-positive p mu e = third (lt plusZero p) (lt p _) (finitePositive mu) e
   where
     third : (a b c : Bool) → (a && (b && c)) ≡ true → c ≡ true
     third true true c e = e
     third true false c e = absurd (subst T (sym e) tt)
     third false b c e = absurd (subst T (sym e) tt)
 
-pub left-last : (p lp mu : Float) {k : ℕ} {a : Metered (Option Float)} {n : ℕ} (x : Next (Float × Float) (Option Float)) → Left (newtoning p lp mu) k a n x → k ≡ zero → have (last mu x) n ≡ a
+pub left-last : (p lp mu : Float) {k : ℕ} {a : Metered (Option Float)} {n : ℕ} (x : Next (Float × Float) (Option Float)) → Left (newtonLoop p lp mu) k a n x → k ≡ zero → have (last mu x) n ≡ a
 left-last p lp mu (go s) i e = sym (left-out i e)
 left-last p lp mu (stop t) i e = sym (left-stop i)
 
 -- ---- one turn of a loop that uses the density, from the contracts of an evaluation and of what is made of it
 
 module _ {k j n m : ℕ} {v d : Float} where
-  pub step-turn : (p lp mu x direction w : Float) (t : Option Float) {a : Metered (Option Float)} {y : Next (Float × Float) (Option Float)} → Left (newtoning p lp mu) k a n (go (x, direction)) → k ≡ suc j
+  pub step-turn : (p lp mu x direction w : Float) (t : Option Float) {a : Metered (Option Float)} {y : Next (Float × Float) (Option Float)} → Left (newtonLoop p lp mu) k a n (go (x, direction)) → k ≡ suc j
       → have (sample v d) m ≡ limited n (tick (atOnce (sample (inverseGaussianCdfStandardized x mu) (inverseGaussianPdf (x ⊗ mu) mu))))
-      → w ≡ numerator v p lp → t ≡ nrstep (mu ⊗ d) w → y ≡ later mu x direction t → Left (newtoning p lp mu) j a m y
+      → w ≡ numerator v p lp → t ≡ nrstep (mu ⊗ d) w → y ≡ later mu x direction t → Left (newtonLoop p lp mu) j a m y
   step-turn p lp mu x direction w t i f e g h q =
       left-turn _ (λ pdf. later mu x direction (nrstep (mu ⊗ pdf) (numerator v p lp))) i f e refl (rw (← g, ← h) (sym q))
 
-  pub round-turn : (mu p : Float) (b : Bracket) (x : Float) {a : Metered Float} {y r : Next (Bracket × Float) Float} → Left (rounding mu p) k a n (go (b, x)) → k ≡ suc j
-      → have (sample v d) m ≡ limited n (tick (atOnce (sample (inverseGaussianCdf x mu) (inverseGaussianPdf x mu)))) → r ≡ round d p (b, x) v → r ≡ y → Left (rounding mu p) j a m y
-  round-turn mu p b x i f e g h = left-turn _ (λ pdf. round pdf p (b, x) v) i f e refl (sym g ∙ h)
+  pub iteration-turn : (mu p : Float) (b : Bracket) (x : Float) {a : Metered Float} {y r : Next (Bracket × Float) Float} → Left (iterationLoop mu p) k a n (go (b, x)) → k ≡ suc j
+      → have (sample v d) m ≡ limited n (tick (atOnce (sample (inverseGaussianCdf x mu) (inverseGaussianPdf x mu)))) → r ≡ iteration d p (b, x) v → r ≡ y → Left (iterationLoop mu p) j a m y
+  iteration-turn mu p b x i f e g h = left-turn _ (λ pdf. iteration pdf p (b, x) v) i f e refl (sym g ∙ h)
 
-  pub survival-round-turn : (mu p : Float) (b : Bracket) (x : Float) {a : Metered Float} {y r : Next (Bracket × Float) Float} → Left (survivalRounding mu p) k a n (go (b, x)) → k ≡ suc j
-      → have (sample v d) m ≡ limited n (tick (atOnce (sample (inverseGaussianSurvival x mu) (inverseGaussianPdf x mu)))) → {q : Float} → q ≡ d → r ≡ survivalRound q p (b, x) v → r ≡ y
-      → Left (survivalRounding mu p) j a m y
-  survival-round-turn mu p b x i f e o g h = left-turn _ (λ pdf. survivalRound pdf p (b, x) v) i f e refl (rw (← o) (sym g ∙ h))
+  pub survival-iteration-turn : (mu p : Float) (b : Bracket) (x : Float) {a : Metered Float} {y r : Next (Bracket × Float) Float} → Left (survivalIterationLoop mu p) k a n (go (b, x)) → k ≡ suc j
+      → have (sample v d) m ≡ limited n (tick (atOnce (sample (inverseGaussianSurvival x mu) (inverseGaussianPdf x mu)))) → {q : Float} → q ≡ d → r ≡ survivalIteration q p (b, x) v → r ≡ y
+      → Left (survivalIterationLoop mu p) j a m y
+  survival-iteration-turn mu p b x i f e o g h = left-turn _ (λ pdf. survivalIteration pdf p (b, x) v) i f e refl (rw (← o) (sym g ∙ h))
 
 -- ---- `inverse_gaussian_quantile_actuar`
 
@@ -62,7 +62,7 @@ pub no-step : (p mu : Float) (w : Sample) (n : ℕ) → spent ≡ limited n (tic
 unfolding inverseGaussianQuantileActuar
 no-step p mu w n e = rw (none-of w e) (sym (limited-none _))
 
-pub from-step : (p lp mu x : Float) (n m : ℕ) (v d w : Float) (t : Option Float) (s : Next (Float × Float) (Option Float)) (q : Metered (Option Float)) → lp ≡ ln p → x ≡ start p lp mu
+pub from-step : (p lp mu x : Float) (n m : ℕ) (v d w : Float) (t : Option Float) (s : Next (Float × Float) (Option Float)) (q : Metered (Option Float)) → lp ≡ ln p → x ≡ initialX p lp mu
     → have (sample v d) m ≡ limited n (tick (atOnce (sample (inverseGaussianCdfStandardized x mu) (inverseGaussianPdf (x ⊗ mu) mu)))) → w ≡ numerator v p lp → t ≡ nrstep (mu ⊗ d) w → s ≡ first mu x t
     → q ≡ limited m (steps p lp mu s) → q ≡ limited n (inverseGaussianQuantileActuar p mu)
 unfolding inverseGaussianQuantileActuar
@@ -77,7 +77,7 @@ from-step p lp mu x n m v d w t s q l e f u k g h =
 module _ (p mu : Float) where
   -- the bracket and the rounds, from the value v at x
   abbrev searchFrom : Float → Float → Counted Float
-  searchFrom x v = then (bracketAt x v mu p) (λ b. rounds mu p b (clamped b x))
+  searchFrom x v = then (bracketAt x v mu p) (λ b. iterations mu p b (clamped b x))
 
   pub no-guess : (w : Sample) (n : ℕ) → spent ≡ limited n (tick (atOnce w)) → spent ≡ limited n (someOf (inverseGaussianQuantileBracketed p mu))
   unfolding inverseGaussianQuantileBracketed
@@ -93,12 +93,12 @@ module _ (p mu : Float) where
       rw (← f, ← s, a, o .1) (h ∙ sym (limited-tick m _))
 
   pub no-bracket : (x : Float) (n : ℕ) (v : Float) → spent ≡ limited n (someOf (bracketAt x v mu p)) → spent ≡ limited n (someOf (searchFrom x v))
-  no-bracket x n v e = some-spent n _ (then-spent n _ (λ b. rounds mu p b (clamped b x)) (spent-of n _ e))
+  no-bracket x n v e = some-spent n _ (then-spent n _ (λ b. iterations mu p b (clamped b x)) (spent-of n _ e))
 
   pub from-bracket : (x : Float) (n m : ℕ) (v : Float) (b : Bracket) (y : Float) (q : Metered (Option Float)) → have (some b) m ≡ limited n (someOf (bracketAt x v mu p)) → y ≡ clamped b x
-      → q ≡ limited m (someOf (rounds mu p b y)) → q ≡ limited n (someOf (searchFrom x v))
+      → q ≡ limited m (someOf (iterations mu p b y)) → q ≡ limited n (someOf (searchFrom x v))
   from-bracket x n m v b y q e d h =
-      then-some n m (bracketAt x v mu p) (λ b. rounds mu p b (clamped b x)) b q (have-of n m _ b e) (h ∙ ap (λ (y : Float). limited m (someOf (rounds mu p b y))) d)
+      then-some n m (bracketAt x v mu p) (λ b. iterations mu p b (clamped b x)) b q (have-of n m _ b e) (h ∙ ap (λ (y : Float). limited m (someOf (iterations mu p b y))) d)
 
 -- ---- `inverse_gaussian_quantile`
 
@@ -108,15 +108,15 @@ unsolvable p mu n e = rw e (sym (limited-now n none))
 
 -- what the steps and the filter gave, t, and the bracketed search where that is none
 tried : (p mu : Float) (n : ℕ) (a : Metered (Option Float)) (t : Metered (Option Float)) → solvable p mu ≡ true → a ≡ limited n (inverseGaussianQuantileActuar p mu) → t ≡ mapped filtered a
-    → limited n (inverseGaussianQuantile p mu) ≡ allSome (onward t (λ t m. limited m (orElse t (inverseGaussianQuantileBracketed p mu))))
+    → limited n (inverseGaussianQuantile p mu) ≡ allSome (andThen t (λ t m. limited m (orElse t (inverseGaussianQuantileBracketed p mu))))
 unfolding inverseGaussianQuantile
 tried p mu n a t s e f =
     let c = inverseGaussianQuantileActuar p mu in
     let b = inverseGaussianQuantileBracketed p mu in
     rw (s, limited-some n (then c (λ t. orElse (filtered t) b)), limited-then n c (λ t. orElse (filtered t) b), ← e, f) (sym (split a))
   where
-    split : (a : Metered (Option Float)) → allSome (onward (mapped filtered a) (λ t m. limited m (orElse t (inverseGaussianQuantileBracketed p mu))))
-        ≡ allSome (onward a (λ t m. limited m (orElse (filtered t) (inverseGaussianQuantileBracketed p mu))))
+    split : (a : Metered (Option Float)) → allSome (andThen (mapped filtered a) (λ t m. limited m (orElse t (inverseGaussianQuantileBracketed p mu))))
+        ≡ allSome (andThen a (λ t m. limited m (orElse (filtered t) (inverseGaussianQuantileBracketed p mu))))
     split (have t m) = refl
     split spent = refl
 
@@ -144,21 +144,21 @@ survival-no-guess p mu w n s e = rw (s, none-of w e) (sym (limited-none _))
 
 pub survival-from-guess : (p mu z g x : Float) (n m : ℕ) (v d : Float) (q : Metered (Option Float)) → solvable p mu ≡ true → z ≡ inverseNormCdf p → g ≡ inverseGaussianQuantileInitialGuessFromZ (neg z) mu
     → x ≡ startingPoint g mu → have (sample v d) m ≡ limited n (tick (atOnce (sample (inverseGaussianSurvival x mu) (inverseGaussianPdf x mu))))
-    → q ≡ limited m (then (survivalBracketAt x v mu p) (survivalRoundsIn mu p x)) → q ≡ limited n (inverseGaussianQuantileFromSurvival p mu)
+    → q ≡ limited m (then (survivalBracketAt x v mu p) (survivalIterationsIn mu p x)) → q ≡ limited n (inverseGaussianQuantileFromSurvival p mu)
 unfolding inverseGaussianQuantileFromSurvival survivalSearch
 survival-from-guess p mu z g x n m v d q s y f t e h =
     let o = value-of e in
     let a : inverseGaussianSurvival x mu ≡ v = cc in
     rw (s, ← y, ← f, ← t, a, o .1) (h ∙ sym (limited-tick m _))
 
-pub survival-no-bracket : (p mu x : Float) (n : ℕ) (v : Float) → spent ≡ limited n (survivalBracketAt x v mu p) → spent ≡ limited n (then (survivalBracketAt x v mu p) (survivalRoundsIn mu p x))
-survival-no-bracket p mu x n v e = then-spent n _ (survivalRoundsIn mu p x) e
+pub survival-no-bracket : (p mu x : Float) (n : ℕ) (v : Float) → spent ≡ limited n (survivalBracketAt x v mu p) → spent ≡ limited n (then (survivalBracketAt x v mu p) (survivalIterationsIn mu p x))
+survival-no-bracket p mu x n v e = then-spent n _ (survivalIterationsIn mu p x) e
 
-pub survival-nowhere : (p mu x : Float) (n m : ℕ) (v : Float) → have none m ≡ limited n (survivalBracketAt x v mu p) → have none m ≡ limited n (then (survivalBracketAt x v mu p) (survivalRoundsIn mu p x))
-unfolding survivalRoundsIn
-survival-nowhere p mu x n m v e = then-have n m _ (survivalRoundsIn mu p x) none _ e (sym (limited-now m none))
+pub survival-nowhere : (p mu x : Float) (n m : ℕ) (v : Float) → have none m ≡ limited n (survivalBracketAt x v mu p) → have none m ≡ limited n (then (survivalBracketAt x v mu p) (survivalIterationsIn mu p x))
+unfolding survivalIterationsIn
+survival-nowhere p mu x n m v e = then-have n m _ (survivalIterationsIn mu p x) none _ e (sym (limited-now m none))
 
 pub survival-from-bracket : (p mu x : Float) (n m : ℕ) (v : Float) (b : Bracket) (q : Metered (Option Float)) → have (some b) m ≡ limited n (survivalBracketAt x v mu p)
-    → q ≡ limited m (someOf (survivalRounds mu p b x)) → q ≡ limited n (then (survivalBracketAt x v mu p) (survivalRoundsIn mu p x))
-unfolding survivalRoundsIn
-survival-from-bracket p mu x n m v b q e h = then-have n m _ (survivalRoundsIn mu p x) (some b) q e h
+    → q ≡ limited m (someOf (survivalIterations mu p b x)) → q ≡ limited n (then (survivalBracketAt x v mu p) (survivalIterationsIn mu p x))
+unfolding survivalIterationsIn
+survival-from-bracket p mu x n m v b q e h = then-have n m _ (survivalIterationsIn mu p x) (some b) q e h

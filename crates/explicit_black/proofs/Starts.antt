@@ -6,41 +6,41 @@ use lib.Ieee.{Float, binary64, fits, neg}
 use lib.Ieee.Bits.{is-true}
 use Rattle.special_function.specs.NormalDistribution.{inverseNormCdf}
 use Rattle.explicit_black.specs.Loops.{go, Ends}
-use Rattle.explicit_black.specs.Curves.{proper, inverseGaussianQuantileInitialGuess, inverseGaussianQuantileInitialGuessFromZ, startingPoint}
-use Rattle.explicit_black.specs.Bracket.{doubledFrom, doubling, doublings, halved, halving, halvings}
-use Rattle.explicit_black.specs.Survival.{cappedFrom, survivalDoubling, survivalHalving}
-use Rattle.explicit_black.specs.LawsRoots.{guess-held}
-use Rattle.explicit_black.proofs.Doubling.{ends-below, survival-ends-below}
-use Rattle.explicit_black.proofs.Halving.{ends-above, survival-ends-above}
-use Rattle.explicit_black.proofs.Searches.{start-proper}
+use Rattle.explicit_black.specs.Curves.{finitePositive, inverseGaussianQuantileInitialGuess, inverseGaussianQuantileInitialGuessFromZ, startingPoint}
+use Rattle.explicit_black.specs.Bracket.{doubledFrom, doublingLoop, doublings, halved, halvingLoop, halvings}
+use Rattle.explicit_black.specs.Survival.{cappedFrom, survivalDoublingLoop, survivalHalvingLoop}
+use Rattle.explicit_black.specs.Laws.Roots.{guess-held}
+use Rattle.explicit_black.proofs.DoublingEnds.{ends-below, survival-ends-below}
+use Rattle.explicit_black.proofs.HalvingEnds.{ends-above, survival-ends-above}
+use Rattle.explicit_black.proofs.Searches.{start-finite-positive}
 
 -- where `inverse_gaussian_quantile_bracketed` and `inverse_gaussian_quantile_from_survival` start
-abbrev start : Float → Float → Float
-start p mu = startingPoint (inverseGaussianQuantileInitialGuess p mu) mu
+abbrev quantile-start : Float → Float → Float
+quantile-start p mu = startingPoint (inverseGaussianQuantileInitialGuess p mu) mu
 
 abbrev survival-start : Float → Float → Float
 survival-start p mu = startingPoint (inverseGaussianQuantileInitialGuessFromZ (neg (inverseNormCdf p)) mu) mu
 
 -- mu finite and above 0, and a value of binary64
-module _ (p mu : Float) (h : proper mu ≡ true) (f : fits binary64 mu ≡ true) where
-  fit : fits binary64 (start p mu) ≡ true
+module _ (p mu : Float) (h : finitePositive mu ≡ true) (f : fits binary64 mu ≡ true) where
+  fit : fits binary64 (quantile-start p mu) ≡ true
   unfolding inverseGaussianQuantileInitialGuess
   fit = is-true _ (guess-held (inverseNormCdf p) mu (subst T (sym f) tt))
 
-  pub quantile-doubling-ends : Ends (doubling mu p) doublings (go (doubledFrom (start p mu)))
-  quantile-doubling-ends = ends-below mu p (start p mu) (start-proper (inverseGaussianQuantileInitialGuess p mu) mu (start p mu) h refl) fit
+  pub quantile-doubling-ends : Ends (doublingLoop mu p) doublings (go (doubledFrom (quantile-start p mu)))
+  quantile-doubling-ends = ends-below mu p (quantile-start p mu) (start-finite-positive (inverseGaussianQuantileInitialGuess p mu) mu (quantile-start p mu) h refl) fit
 
-  pub quantile-halving-ends : Ends (halving mu p) halvings (halved (start p mu) (start p mu))
-  quantile-halving-ends = ends-above mu p (start p mu) (start-proper (inverseGaussianQuantileInitialGuess p mu) mu (start p mu) h refl) fit
+  pub quantile-halving-ends : Ends (halvingLoop mu p) halvings (halved (quantile-start p mu) (quantile-start p mu))
+  quantile-halving-ends = ends-above mu p (quantile-start p mu) (start-finite-positive (inverseGaussianQuantileInitialGuess p mu) mu (quantile-start p mu) h refl) fit
 
   survival-fit : fits binary64 (survival-start p mu) ≡ true
   survival-fit = is-true _ (guess-held (neg (inverseNormCdf p)) mu (subst T (sym f) tt))
 
-  survival-proper : proper (survival-start p mu) ≡ true
-  survival-proper = start-proper (inverseGaussianQuantileInitialGuessFromZ (neg (inverseNormCdf p)) mu) mu (survival-start p mu) h refl
+  survival-finite-positive : finitePositive (survival-start p mu) ≡ true
+  survival-finite-positive = start-finite-positive (inverseGaussianQuantileInitialGuessFromZ (neg (inverseNormCdf p)) mu) mu (survival-start p mu) h refl
 
-  pub survival-doubling-ends : Ends (survivalDoubling mu p) doublings (go (cappedFrom (survival-start p mu)))
-  survival-doubling-ends = survival-ends-below mu p (survival-start p mu) survival-proper survival-fit
+  pub survival-doubling-ends : Ends (survivalDoublingLoop mu p) doublings (go (cappedFrom (survival-start p mu)))
+  survival-doubling-ends = survival-ends-below mu p (survival-start p mu) survival-finite-positive survival-fit
 
-  pub survival-halving-ends : Ends (survivalHalving mu p) halvings (halved (survival-start p mu) (survival-start p mu))
-  survival-halving-ends = survival-ends-above mu p (survival-start p mu) survival-proper survival-fit
+  pub survival-halving-ends : Ends (survivalHalvingLoop mu p) halvings (halved (survival-start p mu) (survival-start p mu))
+  survival-halving-ends = survival-ends-above mu p (survival-start p mu) survival-finite-positive survival-fit

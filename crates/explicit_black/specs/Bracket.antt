@@ -2,7 +2,7 @@
 use Prim.Native.Nat.{ℕ}
 use mathlib.Core.Bool.{Bool, cond, _&&_, _||_}
 use lib.Ieee.{Float, lt, le, eq}
-use Rattle.arithmetic.specs.Operations.{_⊕_, _⊖_, _⊗_, _⊘_, bits, nought, half, one, two, minPositive, maxFinite}
+use Rattle.arithmetic.specs.Operations.{_⊕_, _⊖_, _⊗_, _⊘_, bits, plusZero, half, one, two, minPositive, maxFinite}
 use Rattle.arithmetic.specs.Basic.{isFinite}
 use Rattle.arithmetic.specs.Exp.{exp}
 use Rattle.arithmetic.specs.Ln.{ln}
@@ -30,8 +30,8 @@ unfoldable pub widened : Float → Bracket → Float → Next Bracket Bracket
 widened p b v = cond (le p v || eq (b .upper) maxFinite) (stop b) (go (doubledFrom (b .upper)))
 
 -- the loop: the upper bound is asked
-abbrev pub doubling : Float → Float → Loop Bracket Bracket
-doubling mu p = record { ask = λ x. inverseGaussianCdf x mu; point = λ b. b .upper; advance = widened p; out = λ b. b }
+abbrev pub doublingLoop : Float → Float → Loop Bracket Bracket
+doublingLoop mu p = record { ask = λ x. inverseGaussianCdf x mu; point = λ b. b .upper; advance = widened p; out = λ b. b }
 
 -- from the smallest value to past the largest
 unfoldable pub doublings : ℕ
@@ -39,21 +39,21 @@ doublings = 2098
 
 -- from the bracket above the starting point
 unfoldable pub bracketQuantileFromBelow : Float → Float → Float → Counted Bracket
-bracketQuantileFromBelow initial mu p = iterate (doubling mu p) doublings (go (doubledFrom initial))
+bracketQuantileFromBelow initial mu p = iterate (doublingLoop mu p) doublings (go (doubledFrom initial))
 
 -- ---- `bracket_quantile_from_above`
 
 -- from half of x: it is tried, unless it is at most the smallest normal value
 unfoldable pub halved : Float → Float → Next Bracket Bracket
-halved x upper = cond (le (x ⊗ half) minPositive) (stop (record { lower = nought; upper = upper })) (go (record { lower = x ⊗ half; upper = upper }))
+halved x upper = cond (le (x ⊗ half) minPositive) (stop (record { lower = plusZero; upper = upper })) (go (record { lower = x ⊗ half; upper = upper }))
 
 -- by the value v at the lower bound
 unfoldable pub lowered : Float → Bracket → Float → Next Bracket Bracket
 lowered p b v = cond (le v p) (stop b) (halved (b .lower) (b .lower ⊗ two))
 
 -- the loop: the lower bound is asked
-abbrev pub halving : Float → Float → Loop Bracket Bracket
-halving mu p = record { ask = λ x. inverseGaussianCdf x mu; point = λ b. b .lower; advance = lowered p; out = λ b. b }
+abbrev pub halvingLoop : Float → Float → Loop Bracket Bracket
+halvingLoop mu p = record { ask = λ x. inverseGaussianCdf x mu; point = λ b. b .lower; advance = lowered p; out = λ b. b }
 
 -- from the largest value to past the smallest normal one
 unfoldable pub halvings : ℕ
@@ -61,17 +61,17 @@ halvings = 2045
 
 -- from half of the starting point
 unfoldable pub bracketQuantileFromAbove : Float → Float → Float → Counted Bracket
-bracketQuantileFromAbove initial mu p = iterate (halving mu p) halvings (halved initial initial)
+bracketQuantileFromAbove initial mu p = iterate (halvingLoop mu p) halvings (halved initial initial)
 
 -- ---- what both searches do with a bracket
 
 -- `bracket_midpoint`
 unfoldable pub bracketMidpoint : Bracket → Float
-bracketMidpoint b = cond (le (b .lower) nought) (half ⊗ b .upper) (exp (half ⊗ (ln (b .lower) ⊕ ln (b .upper))))
+bracketMidpoint b = cond (le (b .lower) plusZero) (half ⊗ b .upper) (exp (half ⊗ (ln (b .lower) ⊕ ln (b .upper))))
 
 -- `bracket_is_tight`
 unfoldable pub bracketIsTight : Bracket → Bool
-bracketIsTight b = cond (le (b .lower) nought) (le (b .upper) minPositive) (le (b .upper ⊘ b .lower ⊖ one) tolerance)
+bracketIsTight b = cond (le (b .lower) plusZero) (le (b .upper) minPositive) (le (b .upper ⊘ b .lower ⊖ one) tolerance)
 
 -- one bound moved to x: the lower where the root is above x
 unfoldable pub narrowed : Bracket → Float → Bool → Bracket

@@ -1,19 +1,18 @@
 -- The inverse Gaussian distribution of explicit_black.rs, and the points where its searches start. Definitions only.
 use mathlib.Core.Bool.{Bool, cond, _&&_}
 use lib.Ieee.{Float, neg, lt, le}
-use Rattle.arithmetic.specs.Operations.{_⊕_, _⊖_, _⊗_, _⊘_, bits, nought, half, two}
+use Rattle.arithmetic.specs.Operations.{_⊕_, _⊖_, _⊗_, _⊘_, bits, plusZero, half, two, frac1Sqrt2}
 use Rattle.arithmetic.specs.Basic.{recip, isFinite}
 use Rattle.arithmetic.specs.Sqrt.{sqrt}
 use Rattle.arithmetic.specs.MulAdd.{mulAdd}
 use Rattle.arithmetic.specs.Exp.{exp}
-use Rattle.special_function.specs.Constants.{frac1Sqrt2}
 use Rattle.special_function.specs.ErrorFunction.{erfcxCody}
 use Rattle.special_function.specs.NormalDistribution.{normPdf, normCdf, inverseNormCdf}
 use Rattle.bs_option_price.specs.BsOptionPrice.{normalisedBlack}
 
 -- finite and above 0: the source writes the two tests in either order, and also denied
-abbrev pub proper : Float → Bool
-proper x = isFinite x && lt nought x
+abbrev pub finitePositive : Float → Bool
+finitePositive x = isFinite x && lt plusZero x
 
 -- `inverse_gaussian_survival`: the normalised Black price is this probability times exp(-1 / mu)
 unfoldable pub inverseGaussianSurvival : Float → Float → Float
@@ -25,7 +24,7 @@ inverseGaussianSurvival x mu =
 unfoldable pub inverseGaussianQuantileInitialGuessFromZ : Float → Float → Float
 inverseGaussianQuantileInitialGuessFromZ z mu =
     let sqrtDiscriminant = sqrt (mulAdd mu (mu ⊗ z ⊗ z) (bits 0x4010_0000_0000_0000 ⊗ mu)) in  -- 4.0
-    let sqrtX = cond (le nought z) (half ⊗ mulAdd mu z sqrtDiscriminant) (two ⊗ mu ⊘ (sqrtDiscriminant ⊖ mu ⊗ z)) in
+    let sqrtX = cond (le plusZero z) (half ⊗ mulAdd mu z sqrtDiscriminant) (two ⊗ mu ⊘ (sqrtDiscriminant ⊖ mu ⊗ z)) in
     sqrtX ⊗ sqrtX
 
 -- `inverse_gaussian_quantile_initial_guess`
@@ -34,7 +33,7 @@ inverseGaussianQuantileInitialGuess probability mu = inverseGaussianQuantileInit
 
 -- the guess, or mu where that is not finite and above 0
 unfoldable pub startingPoint : Float → Float → Float
-startingPoint guess mu = cond (proper guess) guess mu
+startingPoint guess mu = cond (finitePositive guess) guess mu
 
 -- `inverse_gaussian_cdf`
 unfoldable pub inverseGaussianCdf : Float → Float → Float

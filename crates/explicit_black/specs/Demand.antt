@@ -7,8 +7,9 @@ use lib.Dec.{T}
 use lib.Ieee.{Float, le, lt, eq}
 use lib.Ieee.Scale.{finite}
 use lib.Ieee.Positive.{num, den}
-use Rattle.arithmetic.specs.Operations.{nought, minPositive}
-use Rattle.arithmetic.specs.Basic.{minus?}
+use Rattle.arithmetic.specs.Operations.{plusZero, minPositive}
+use Rattle.arithmetic.specs.Basic.{isSignMinus}
+use Rattle.arithmetic.specs.Magnitude.{NotOver}
 use Rattle.explicit_black.specs.Counted.{Counted}
 use Rattle.explicit_black.specs.Quote.{Outcome, total, refused, Reply, answer, refusal}
 
@@ -26,16 +27,12 @@ pub record Exactly (n : ℤ) (x y : Float) : Type 0 where
   pub finite-x : T (finite x)
   pub finite-y : T (finite y)
   pub fraction : num y * den x * fourDown n ≡ num x * den y * fourUp n
-  pub signs : (num x ≡ 0) ⊎ (minus? y ≡ minus? x)
-
--- x is not over 2 ^ 1022 times y
-abbrev pub NotOver : Float → Float → Type 0
-NotOver x y = num x * den y ≤ num y * den x * 2 ^ 1022
+  pub signs : (num x ≡ 0) ⊎ (isSignMinus y ≡ isSignMinus x)
 
 -- a price that is finite and not negative, minus zero included; a forward and a strike that are finite and at least 2 ^ -1022, neither over 2 ^ 1022 times the other
-pub record Fair (price forward strike : Float) : Type 0 where
+pub record ComparableFigures (price forward strike : Float) : Type 0 where
   pub price-finite : T (finite price)
-  pub price-not-negative : T (le nought price)
+  pub price-not-negative : T (le plusZero price)
   pub forward-finite : T (finite forward)
   pub forward-normal : T (le minPositive forward)
   pub strike-finite : T (finite strike)
@@ -44,8 +41,8 @@ pub record Fair (price forward strike : Float) : Type 0 where
   pub strike-not-over : NotOver strike forward
 
 -- two times that are both zero, or both finite and above zero
-abbrev pub Timed : Float → Float → Type 0
-Timed t t' = (T (eq t nought) × T (eq t' nought)) ⊎ (T (finite t) × T (lt nought t) × T (finite t') × T (lt nought t'))
+abbrev pub ComparableTimes : Float → Float → Type 0
+ComparableTimes t t' = (T (eq t plusZero) × T (eq t' plusZero)) ⊎ (T (finite t) × T (lt plusZero t) × T (finite t') × T (lt plusZero t'))
 
 -- what two replies are compared by: total volatility or refusal number, and count
 abbrev pub compared : Reply → Counted Outcome

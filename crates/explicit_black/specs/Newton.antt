@@ -1,7 +1,7 @@
 -- `inverse_gaussian_quantile_actuar` and what it calls: Newton steps on the standardised variable x / mu. Definitions only.
 use mathlib.Core.Bool.{Bool, cond}
 use lib.Ieee.{Float, neg, lt, le}
-use Rattle.arithmetic.specs.Operations.{_⊕_, _⊖_, _⊗_, _⊘_, bits, nought, half, one, minPositive}
+use Rattle.arithmetic.specs.Operations.{_⊕_, _⊖_, _⊗_, _⊘_, bits, plusZero, half, one, minPositive}
 use Rattle.arithmetic.specs.Basic.{abs, signum, max, recip}
 use Rattle.arithmetic.specs.Sqrt.{sqrt}
 use Rattle.arithmetic.specs.Exp.{exp}
@@ -9,7 +9,7 @@ use Rattle.arithmetic.specs.Ln.{ln, ln1p}
 use Rattle.special_function.specs.NormalDistribution.{inverseNormCdf}
 use Rattle.explicit_black.specs.Counted.{Option, some, none, Counted, tick}
 use Rattle.explicit_black.specs.Loops.{Next, go, stop, Loop, iterate}
-use Rattle.explicit_black.specs.Curves.{proper, inverseGaussianCdf, inverseGaussianPdf, inverseGaussianQuantileInitialGuess}
+use Rattle.explicit_black.specs.Curves.{finitePositive, inverseGaussianCdf, inverseGaussianPdf, inverseGaussianQuantileInitialGuess}
 
 -- `inverse_gaussian_mode_standardized`
 unfoldable pub inverseGaussianModeStandardized : Float → Float
@@ -32,13 +32,13 @@ inverseGaussianPdfStandardized x phi = phi ⊗ inverseGaussianPdf (x ⊗ phi) ph
 unfoldable pub numerator : Float → Float → Float → Float
 numerator cdf probability logProbability =
     let delta = logProbability ⊖ ln cdf in
-    cond (lt nought cdf)
+    cond (lt plusZero cdf)
     (cond (lt (abs delta) (bits 0x3EE4_F8B5_88E3_68F1)) (delta ⊗ exp (logProbability ⊕ ln1p (neg half ⊗ delta))) (probability ⊖ cdf))  -- 1.0e-5
     probability
 
 -- the step that would bring an error to 0 where the density is pdf: a move, or none
 unfoldable pub nrstep : Float → Float → Option Float
-nrstep pdf error = cond (proper pdf) (some (error ⊘ pdf)) none
+nrstep pdf error = cond (finitePositive pdf) (some (error ⊘ pdf)) none
 
 -- `inverse_gaussian_nrstep_standardized`, where the distribution's value is cdf
 abbrev pub inverseGaussianNrstepStandardized : Float → Float → Float → Float → Float → Option Float
@@ -54,10 +54,10 @@ seed probability logProbability mu =
     mode)
 
 -- the seed; where that is not finite and above 0 the mode, or the smallest normal value if that is larger
-unfoldable pub start : Float → Float → Float → Float
-start probability logProbability mu =
+unfoldable pub initialX : Float → Float → Float → Float
+initialX probability logProbability mu =
     let x = seed probability logProbability mu in
-    cond (proper x) x (max (inverseGaussianModeStandardized mu) minPositive)
+    cond (finitePositive x) x (max (inverseGaussianModeStandardized mu) minPositive)
 
 -- ACTUAR_RELATIVE_QUANTILE_TOLERANCE, 1.0e-14
 unfoldable pub converged : Float → Float → Bool
@@ -66,7 +66,7 @@ converged dx x = le (abs dx ⊘ x) (bits 0x3D06_849B_86A1_2B9B)
 -- Where the steps stand: x, and the direction of the first move. After a move dx to x the search fails where x is not finite and above 0,
 -- and has its root where the move was small.
 unfoldable pub afterMove : Float → Float → Float → Float → Next (Float × Float) (Option Float)
-afterMove mu x dx direction = cond (proper x) (cond (converged dx x) (stop (some (x ⊗ mu))) (go (x, direction))) (stop none)
+afterMove mu x dx direction = cond (finitePositive x) (cond (converged dx x) (stop (some (x ⊗ mu))) (go (x, direction))) (stop none)
 
 -- after the first step, from x
 unfoldable pub first : Float → Float → Option Float → Next (Float × Float) (Option Float)
@@ -75,12 +75,12 @@ first mu x none = stop none
 
 -- a move against the first direction ends the search
 unfoldable pub later : Float → Float → Float → Option Float → Next (Float × Float) (Option Float)
-later mu x direction (some dx) = cond (lt (dx ⊗ direction) nought) (stop (some (x ⊗ mu))) (afterMove mu (x ⊕ dx) dx direction)
+later mu x direction (some dx) = cond (lt (dx ⊗ direction) plusZero) (stop (some (x ⊗ mu))) (afterMove mu (x ⊕ dx) dx direction)
 later mu x direction none = stop none
 
 -- the loop of the steps after the first
-abbrev pub newtoning : Float → Float → Float → Loop (Float × Float) (Option Float)
-newtoning probability logProbability mu = record {
+abbrev pub newtonLoop : Float → Float → Float → Loop (Float × Float) (Option Float)
+newtonLoop probability logProbability mu = record {
   ask = λ x. inverseGaussianCdfStandardized x mu;
   point = λ s. s .0;
   advance = λ s cdf. later mu (s .0) (s .1) (inverseGaussianNrstepStandardized (s .0) cdf probability logProbability mu);
@@ -94,11 +94,11 @@ last mu (go s) = some (s .0 ⊗ mu)
 
 -- ACTUAR_MAX_QUANTILE_ITERATIONS is 100: the first step and 99 more
 unfoldable pub steps : Float → Float → Float → Next (Float × Float) (Option Float) → Counted (Option Float)
-steps probability logProbability mu n = iterate (newtoning probability logProbability mu) 99 n
+steps probability logProbability mu n = iterate (newtonLoop probability logProbability mu) 99 n
 
 -- `inverse_gaussian_quantile_actuar`
 unfoldable pub inverseGaussianQuantileActuar : Float → Float → Counted (Option Float)
 inverseGaussianQuantileActuar probability mu =
     let logProbability = ln probability in
-    let x = start probability logProbability mu in
+    let x = initialX probability logProbability mu in
     tick (steps probability logProbability mu (first mu x (inverseGaussianNrstepStandardized x (inverseGaussianCdfStandardized x mu) probability logProbability mu)))

@@ -3,14 +3,14 @@ use Prim.Native.Nat.{ℕ}
 use mathlib.Core.Bool.{not, _&&_, _||_, cond}
 use lib.Dec.{eqb}
 use lib.Ieee.{Float, neg, lt, le, eq}
-use Rattle.arithmetic.specs.Operations.{_⊖_, _⊗_, _⊘_, bits, nought, half, one, two, minPositive, infinity}
+use Rattle.arithmetic.specs.Operations.{_⊖_, _⊗_, _⊘_, bits, plusZero, half, one, two, minPositive, infinity, sqrt2}
 use Rattle.arithmetic.specs.Basic.{abs, max, isFinite}
 use Rattle.arithmetic.specs.Sqrt.{sqrt}
 use Rattle.arithmetic.specs.Exp.{exp}
 use Rattle.special_function.specs.Erfinv.{erfinv}
 use Rattle.bs_option_price.specs.BsOptionPrice.{negativeAbsLogMoneyness}
 use Rattle.explicit_black.specs.Counted.{Option, some, none, Counted, atOnce, orElse}
-use Rattle.explicit_black.specs.Curves.{proper}
+use Rattle.explicit_black.specs.Curves.{finitePositive}
 use Rattle.explicit_black.specs.Quantile.{inverseGaussianQuantile}
 use Rattle.explicit_black.specs.Survival.{inverseGaussianQuantileFromSurvival}
 
@@ -27,7 +27,7 @@ pub data Reply : Type 0 where
 -- total / √time, rounded once; at time zero 0
 unfoldable pub volatility : Float → Float → Float
 unfolding sqrt
-volatility time v = cond (eq time nought) nought (v ⊘ sqrt time)
+volatility time v = cond (eq time plusZero) plusZero (v ⊘ sqrt time)
 
 abbrev pub replyOf : Float → Outcome → ℕ → Reply
 replyOf time (total v) count = answer v (volatility time v) count
@@ -40,15 +40,15 @@ reply time c = replyOf time (c .result) (c .count)
 
 -- `implied_normalised_volatility_atm` of lets_be_rational.rs
 unfoldable pub impliedNormalisedVolatilityAtm : Float → Float
-impliedNormalisedVolatilityAtm beta = two ⊗ bits 0x3FF6_A09E_667F_3BCD ⊗ erfinv beta  -- SQRT_2
+impliedNormalisedVolatilityAtm beta = two ⊗ sqrt2 ⊗ erfinv beta
 
 -- at the money; a value that is NaN or below 0, which is one that is not at least 0, is refused
 unfoldable pub atTheMoney : Float → Outcome
-atTheMoney price = let v = impliedNormalisedVolatilityAtm price in cond (le nought v) (total v) (refused 9)
+atTheMoney price = let v = impliedNormalisedVolatilityAtm price in cond (le plusZero v) (total v) (refused 9)
 
 -- the total volatility at the root of a search; none, and a root that is not finite and above 0, are refused
 unfoldable pub totalAt : Option Float → Outcome
-totalAt (some x) = cond (proper x) (total (two ⊘ sqrt x)) (refused 9)
+totalAt (some x) = cond (finitePositive x) (total (two ⊘ sqrt x)) (refused 9)
 totalAt none = refused 9
 
 abbrev pub searched : Counted (Option Float) → Counted Outcome
@@ -60,24 +60,24 @@ fromCallPrice otmCallPrice mu =
     let probability = one ⊖ otmCallPrice in
     cond (lt otmCallPrice (bits 0x3EE4_F8B5_88E3_68F1))  -- 1.0e-5
     (searched (inverseGaussianQuantileFromSurvival otmCallPrice mu))
-    (cond (le probability nought) (atOnce (total infinity))
-    (cond (le one probability) (atOnce (total nought))
+    (cond (le probability plusZero) (atOnce (total infinity))
+    (cond (le one probability) (atOnce (total plusZero))
     (searched (inverseGaussianQuantile probability mu))))
 
 -- tests 7, 8 and 9, and what passes them
-unfoldable pub normalisedOutcome : Float → Float → Counted Outcome
-normalisedOutcome logMoneyness price =
+unfoldable pub fromNormalisedPrice : Float → Float → Counted Outcome
+fromNormalisedPrice logMoneyness price =
     let absX = abs logMoneyness in
     let bMax = exp (neg half ⊗ absX) in
-    cond (le price nought) (atOnce (cond (eq price nought) (total nought) (refused 7)))
+    cond (le price plusZero) (atOnce (cond (eq price plusZero) (total plusZero) (refused 7)))
     (cond (le bMax price) (atOnce (cond (eq price bMax) (total infinity) (refused 8)))
-    (cond (eq absX nought) (atOnce (atTheMoney price))
+    (cond (eq absX plusZero) (atOnce (atTheMoney price))
     (fromCallPrice (price ⊘ bMax) (two ⊘ absX))))
 
 -- test 2 comes first; the answer is as at time 1
 unfoldable pub impliedBlackVolatilityNormalised : Float → Float → Reply
 impliedBlackVolatilityNormalised logMoneyness price =
-    reply one (cond (isFinite logMoneyness && isFinite price) (normalisedOutcome logMoneyness price) (atOnce (refused 2)))
+    reply one (cond (isFinite logMoneyness && isFinite price) (fromNormalisedPrice logMoneyness price) (atOnce (refused 2)))
 
 -- ---- `implied_black_volatility_input`. Side 0 is a call, side 1 a put.
 
@@ -86,8 +86,8 @@ unfoldable pub firstRefusal : ℕ → Float → Float → Float → Float → �
 firstRefusal side price forward strike time =
     cond (not (eqb side 0 || eqb side 1)) 1
     (cond (not (isFinite price && isFinite forward && isFinite strike && isFinite time)) 2
-    (cond (not (lt nought forward && lt nought strike)) 3
-    (cond (lt time nought) 4
+    (cond (not (lt plusZero forward && lt plusZero strike)) 3
+    (cond (lt time plusZero) 4
     0)))
 
 abbrev pub intrinsicValue : ℕ → Float → Float → Float
@@ -99,33 +99,33 @@ priceBound side forward strike = cond (eqb side 0) forward strike
 
 -- the price without its intrinsic value, over the product of the roots of forward and strike
 abbrev pub normalisedTimeValue : Float → Float → Float → Float
-normalisedTimeValue price intrinsic roots = cond (lt nought intrinsic) (price ⊖ intrinsic) price ⊘ roots
+normalisedTimeValue price intrinsic roots = cond (lt plusZero intrinsic) (price ⊖ intrinsic) price ⊘ roots
 
 -- test 7, and what passes it
-unfoldable pub valued : Float → Float → Counted Outcome
-valued logMoneyness timeValue =
-    cond (le timeValue minPositive) (atOnce (cond (le nought timeValue) (total nought) (refused 7)))
-    (normalisedOutcome logMoneyness timeValue)
+unfoldable pub fromTimeValue : Float → Float → Counted Outcome
+fromTimeValue logMoneyness timeValue =
+    cond (le timeValue minPositive) (atOnce (cond (le plusZero timeValue) (total plusZero) (refused 7)))
+    (fromNormalisedPrice logMoneyness timeValue)
 
 -- tests 5 and 6: what they decide; nothing where the price is below its bound at a time above zero
 unfoldable pub boundTests : Float → Float → Float → Float → Option Outcome
 boundTests price intrinsic bound time =
-    cond (eq time nought) (some (cond (eq price (max intrinsic nought)) (total nought) (refused 5)))
+    cond (eq time plusZero) (some (cond (eq price (max intrinsic plusZero)) (total plusZero) (refused 5)))
     (cond (le bound price) (some (cond (eq price bound) (total infinity) (refused 6)))
     none)
 
 -- what tests 5 and 6 decide, and else the search for the normalised time value
-unfoldable pub priced : Float → Float → Float → Float → Float → Float → Counted Outcome
+unfoldable pub fromPrice : Float → Float → Float → Float → Float → Float → Counted Outcome
 unfolding boundTests orElse
-priced price intrinsic bound roots logMoneyness time =
-    orElse (boundTests price intrinsic bound time) (valued logMoneyness (normalisedTimeValue price intrinsic roots))
+fromPrice price intrinsic bound roots logMoneyness time =
+    orElse (boundTests price intrinsic bound time) (fromTimeValue logMoneyness (normalisedTimeValue price intrinsic roots))
 
-unfoldable pub inputOutcome : ℕ → Float → Float → Float → Float → Counted Outcome
-inputOutcome side price forward strike time =
+unfoldable pub fromQuote : ℕ → Float → Float → Float → Float → Counted Outcome
+fromQuote side price forward strike time =
     let number = firstRefusal side price forward strike time in
     cond (eqb number 0)
-    (priced price (intrinsicValue side forward strike) (priceBound side forward strike) (sqrt forward ⊗ sqrt strike) (negativeAbsLogMoneyness forward strike) time)
+    (fromPrice price (intrinsicValue side forward strike) (priceBound side forward strike) (sqrt forward ⊗ sqrt strike) (negativeAbsLogMoneyness forward strike) time)
     (atOnce (refused number))
 
 unfoldable pub impliedBlackVolatilityInput : ℕ → Float → Float → Float → Float → Reply
-impliedBlackVolatilityInput side price forward strike time = reply time (inputOutcome side price forward strike time)
+impliedBlackVolatilityInput side price forward strike time = reply time (fromQuote side price forward strike time)

@@ -1,14 +1,14 @@
 -- `inverse_gaussian_quantile_from_survival`. Definitions only.
 use mathlib.Core.Bool.{Bool, cond, _&&_}
 use lib.Ieee.{Float, neg, lt, le, eq}
-use Rattle.arithmetic.specs.Operations.{_⊕_, _⊖_, _⊗_, _⊘_, nought, half, one, two, maxFinite}
+use Rattle.arithmetic.specs.Operations.{_⊕_, _⊖_, _⊗_, _⊘_, plusZero, half, one, two, maxFinite}
 use Rattle.arithmetic.specs.Basic.{abs, min}
 use Rattle.arithmetic.specs.Ln.{ln}
 use Rattle.special_function.specs.NormalDistribution.{inverseNormCdf}
 use Rattle.explicit_black.specs.declared.bracket.Bracket.{Bracket}
 use Rattle.explicit_black.specs.Counted.{Option, some, none, Counted, atOnce, tick, then, someOf}
 use Rattle.explicit_black.specs.Loops.{Next, go, stop, Loop, iterate}
-use Rattle.explicit_black.specs.Curves.{proper, inverseGaussianSurvival, inverseGaussianPdf, inverseGaussianQuantileInitialGuessFromZ, startingPoint}
+use Rattle.explicit_black.specs.Curves.{finitePositive, inverseGaussianSurvival, inverseGaussianPdf, inverseGaussianQuantileInitialGuessFromZ, startingPoint}
 use Rattle.explicit_black.specs.Bracket.{tolerance, doublings, halved, halvings, bracketMidpoint, bracketIsTight, narrowed, chosen}
 use Rattle.explicit_black.specs.Quantile.{solvable}
 
@@ -23,12 +23,12 @@ unfoldable pub survivalWidened : Float → Bracket → Float → Next Bracket (O
 survivalWidened p b v = cond (le v p) (stop (some b)) (cond (eq (b .upper) maxFinite) (stop none) (go (cappedFrom (b .upper))))
 
 -- the loop: the upper bound is asked
-abbrev pub survivalDoubling : Float → Float → Loop Bracket (Option Bracket)
-survivalDoubling mu p = record { ask = λ x. inverseGaussianSurvival x mu; point = λ b. b .upper; advance = survivalWidened p; out = λ b. none }
+abbrev pub survivalDoublingLoop : Float → Float → Loop Bracket (Option Bracket)
+survivalDoublingLoop mu p = record { ask = λ x. inverseGaussianSurvival x mu; point = λ b. b .upper; advance = survivalWidened p; out = λ b. none }
 
 -- from the bracket above the starting point
 unfoldable pub survivalFromBelow : Float → Float → Float → Counted (Option Bracket)
-survivalFromBelow initial mu p = iterate (survivalDoubling mu p) doublings (go (cappedFrom initial))
+survivalFromBelow initial mu p = iterate (survivalDoublingLoop mu p) doublings (go (cappedFrom initial))
 
 -- ---- the halving
 
@@ -37,12 +37,12 @@ unfoldable pub survivalLowered : Float → Bracket → Float → Next Bracket Br
 survivalLowered p b v = cond (le p v) (stop b) (halved (b .lower) (b .lower))
 
 -- the loop: the lower bound is asked
-abbrev pub survivalHalving : Float → Float → Loop Bracket Bracket
-survivalHalving mu p = record { ask = λ x. inverseGaussianSurvival x mu; point = λ b. b .lower; advance = survivalLowered p; out = λ b. b }
+abbrev pub survivalHalvingLoop : Float → Float → Loop Bracket Bracket
+survivalHalvingLoop mu p = record { ask = λ x. inverseGaussianSurvival x mu; point = λ b. b .lower; advance = survivalLowered p; out = λ b. b }
 
 -- from half of the starting point
 unfoldable pub survivalFromAbove : Float → Float → Float → Counted Bracket
-survivalFromAbove initial mu p = iterate (survivalHalving mu p) halvings (halved initial initial)
+survivalFromAbove initial mu p = iterate (survivalHalvingLoop mu p) halvings (halved initial initial)
 
 -- the bracket on the side that the value v at x points to
 unfoldable pub survivalBracketAt : Float → Float → Float → Float → Counted (Option Bracket)
@@ -52,7 +52,7 @@ survivalBracketAt x v mu p = cond (lt p v) (survivalFromBelow x mu p) (someOf (s
 
 -- the survival v is above 0 and further than half of the probability from it
 abbrev pub far : Float → Float → Bool
-far v p = lt nought v && lt half (abs (v ⊘ p ⊖ one))
+far v p = lt plusZero v && lt half (abs (v ⊘ p ⊖ one))
 
 -- a step where the survival is v: by logarithms where that is far from the probability
 unfoldable pub survivalStep : Float → Float → Float → Float
@@ -60,7 +60,7 @@ survivalStep v p pdf = cond (far v p) ((ln v ⊖ ln p) ⊗ (v ⊘ pdf)) ((v ⊖ 
 
 -- a round's Newton step, or none
 unfoldable pub survivalNewton : Float → Float → Float → Option Float
-survivalNewton v p pdf = cond (proper pdf) (some (survivalStep v p pdf)) none
+survivalNewton v p pdf = cond (finitePositive pdf) (some (survivalStep v p pdf)) none
 
 -- a small step is the end
 unfoldable pub survivalMoved : Bracket → Float → Option Float → Next (Bracket × Float) Float
@@ -72,36 +72,36 @@ unfoldable pub survivalTightOr : Float → Float → Bracket → Float → Float
 survivalTightOr pdf p b x v = cond (bracketIsTight b) (stop (bracketMidpoint b)) (survivalMoved b x (survivalNewton v p pdf))
 
 -- one round from the bracket and the point of s, where the density is pdf and the survival v
-unfoldable pub survivalRound : Float → Float → Bracket × Float → Float → Next (Bracket × Float) Float
-survivalRound pdf p s v =
+unfoldable pub survivalIteration : Float → Float → Bracket × Float → Float → Next (Bracket × Float) Float
+survivalIteration pdf p s v =
     let error = v ⊖ p in
-    cond (eq error nought) (stop (s .1)) (survivalTightOr pdf p (narrowed (s .0) (s .1) (lt nought error)) (s .1) v)
+    cond (eq error plusZero) (stop (s .1)) (survivalTightOr pdf p (narrowed (s .0) (s .1) (lt plusZero error)) (s .1) v)
 
 -- the loop of the rounds
-abbrev pub survivalRounding : Float → Float → Loop (Bracket × Float) Float
-survivalRounding mu p = record {
+abbrev pub survivalIterationLoop : Float → Float → Loop (Bracket × Float) Float
+survivalIterationLoop mu p = record {
   ask = λ x. inverseGaussianSurvival x mu;
   point = λ s. s .1;
-  advance = λ s v. survivalRound (inverseGaussianPdf (s .1) mu) p s v;
+  advance = λ s v. survivalIteration (inverseGaussianPdf (s .1) mu) p s v;
   out = λ s. bracketMidpoint (s .0);
 }
 
 -- MAX_QUANTILE_ITERATIONS is 64
-unfoldable pub survivalRounds : Float → Float → Bracket → Float → Counted Float
-survivalRounds mu p b x = iterate (survivalRounding mu p) 64 (go (b, x))
+unfoldable pub survivalIterations : Float → Float → Bracket → Float → Counted Float
+survivalIterations mu p b x = iterate (survivalIterationLoop mu p) 64 (go (b, x))
 
 -- ---- the whole: one evaluation at the guess, the bracket, the rounds
 
 -- the rounds, if there is a bracket
-unfoldable pub survivalRoundsIn : Float → Float → Float → Option Bracket → Counted (Option Float)
-survivalRoundsIn mu p x (some b) = someOf (survivalRounds mu p b x)
-survivalRoundsIn mu p x none = atOnce none
+unfoldable pub survivalIterationsIn : Float → Float → Float → Option Bracket → Counted (Option Float)
+survivalIterationsIn mu p x (some b) = someOf (survivalIterations mu p b x)
+survivalIterationsIn mu p x none = atOnce none
 
 -- the search itself, from the probability of the upper tail
 unfoldable pub survivalSearch : Float → Float → Counted (Option Float)
 survivalSearch p mu =
     let x = startingPoint (inverseGaussianQuantileInitialGuessFromZ (neg (inverseNormCdf p)) mu) mu in
-    tick (then (survivalBracketAt x (inverseGaussianSurvival x mu) mu p) (survivalRoundsIn mu p x))
+    tick (then (survivalBracketAt x (inverseGaussianSurvival x mu) mu p) (survivalIterationsIn mu p x))
 
 -- none where there is nothing to look for
 unfoldable pub inverseGaussianQuantileFromSurvival : Float → Float → Counted (Option Float)

@@ -4,15 +4,15 @@ use crate::curves::Allowance;
 use crate::curves::Evaluation;
 use crate::curves::inverse_gaussian_cdf;
 use arithmetic::basic::is_finite;
+use arithmetic::constants::MAX;
+use arithmetic::constants::MIN_POSITIVE;
 use arithmetic::exp::exp;
 use arithmetic::ln::ln;
-use special_function::constants::MAX;
-use special_function::constants::MIN_POSITIVE;
 ghost use mathlib.Core.Path.{_≡_};
 ghost use mathlib.Core.Bool.{true};
 ghost use Rattle.explicit_black.specs.Counted.{limited, someOf};
-ghost use Rattle.explicit_black.specs.Meanings.{reached, widening};
-ghost use Rattle.explicit_black.specs.Curves.{proper};
+ghost use Rattle.explicit_black.specs.Internal.Searches.{viewReach, viewWidening};
+ghost use Rattle.explicit_black.specs.Curves.{finitePositive};
 ghost use Rattle.explicit_black.specs.Bracket.{bracketMidpoint, bracketIsTight, doubled, doubledFrom, widened, bracketQuantileFromBelow, halved, lowered, bracketQuantileFromAbove, narrowed, inside, chosen};
 
 // 32 times f64::EPSILON
@@ -51,7 +51,7 @@ impl Bracket {
 
     // What is next where the distribution is `cdf` at the upper bound.
     pub fn widened(self, cdf: f64, probability: f64) -> Widening
-        ensures { λ r. ⌜ widening r ≡ widened probability self cdf ⌝ }
+        ensures { λ r. ⌜ viewWidening r ≡ widened probability self cdf ⌝ }
     {
         if cdf >= probability {
             return Widening::Reached(self);
@@ -64,7 +64,7 @@ impl Bracket {
 
     // From half of x to upper: to be tried, unless that half is too small.
     pub fn halved(x: f64, upper: f64) -> Widening
-        ensures { λ r. ⌜ widening r ≡ halved x upper ⌝ }
+        ensures { λ r. ⌜ viewWidening r ≡ halved x upper ⌝ }
     {
         let next = x * 0.5;
         if next <= MIN_POSITIVE {
@@ -81,7 +81,7 @@ impl Bracket {
 
     // What is next where the distribution is `cdf` at the lower bound.
     pub fn lowered(self, cdf: f64, probability: f64) -> Widening
-        ensures { λ r. ⌜ widening r ≡ lowered probability self cdf ⌝ }
+        ensures { λ r. ⌜ viewWidening r ≡ lowered probability self cdf ⌝ }
     {
         if cdf <= probability {
             return Widening::Reached(self);
@@ -139,8 +139,8 @@ pub(crate) fn bracket_quantile_from_below(
     probability: f64,
     allowed: Allowance,
 ) -> Reach
-    requires { ⌜ proper initial ≡ true ⌝ }
-    ensures { λ r. ⌜ reached r ≡ limited (allowed .left) (someOf (bracketQuantileFromBelow initial mu probability)) ⌝ }
+    requires { ⌜ finitePositive initial ≡ true ⌝ }
+    ensures { λ r. ⌜ viewReach r ≡ limited (allowed .left) (someOf (bracketQuantileFromBelow initial mu probability)) ⌝ }
 {
     let mut bracket = Bracket::doubled_from(initial);
     let mut left = allowed;
@@ -164,8 +164,8 @@ pub(crate) fn bracket_quantile_from_above(
     probability: f64,
     allowed: Allowance,
 ) -> Reach
-    requires { ⌜ proper initial ≡ true ⌝ }
-    ensures { λ r. ⌜ reached r ≡ limited (allowed .left) (someOf (bracketQuantileFromAbove initial mu probability)) ⌝ }
+    requires { ⌜ finitePositive initial ≡ true ⌝ }
+    ensures { λ r. ⌜ viewReach r ≡ limited (allowed .left) (someOf (bracketQuantileFromAbove initial mu probability)) ⌝ }
 {
     let mut trial = Bracket::halved(initial, initial);
     let mut left = allowed;

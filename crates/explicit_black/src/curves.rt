@@ -1,10 +1,10 @@
 // The curves of the inverse Gaussian distribution with mean mu. A call of either is an evaluation: it takes one off the
 // number allowed, whose field no other module can write to.
 use arithmetic::basic::recip;
+use arithmetic::constants::FRAC_1_SQRT_2;
 use arithmetic::exp::exp;
 use arithmetic::sqrt::sqrt;
 use bs_option_price::normalised_black;
-use special_function::constants::FRAC_1_SQRT_2;
 use special_function::error_function::erfcx_cody;
 use special_function::normal_distribution::norm_cdf;
 use special_function::normal_distribution::norm_pdf;
@@ -12,7 +12,7 @@ use special_function::normal_distribution::norm_pdf_of_square;
 ghost use mathlib.Core.Path.{_≡_};
 ghost use Prim.Native.Nat.{_-_, _<_};
 ghost use Rattle.explicit_black.specs.Counted.{sample, limited, tick, atOnce};
-ghost use Rattle.explicit_black.specs.Meanings.{pdfFrom, evaluated, survivalEvaluated};
+ghost use Rattle.explicit_black.specs.Internal.Searches.{pdfFrom, viewEvaluation, viewSurvivalEvaluation};
 ghost use Rattle.explicit_black.specs.Curves.{inverseGaussianSurvival, inverseGaussianCdf, inverseGaussianPdf};
 
 // How many evaluations are still allowed.
@@ -64,7 +64,7 @@ pub enum SurvivalEvaluation {
 }
 
 pub fn inverse_gaussian_survival(x: f64, mu: f64, allowed: Allowance) -> SurvivalEvaluation
-    ensures { λ r. ⌜ survivalEvaluated x r ≡ limited (allowed .left) (tick (atOnce (sample (inverseGaussianSurvival x mu) (inverseGaussianPdf x mu)))) ⌝ }
+    ensures { λ r. ⌜ viewSurvivalEvaluation x r ≡ limited (allowed .left) (tick (atOnce (sample (inverseGaussianSurvival x mu) (inverseGaussianPdf x mu)))) ⌝ }
 {
     if allowed.left == 0 {
         return SurvivalEvaluation::Spent;
@@ -84,7 +84,7 @@ pub fn inverse_gaussian_survival(x: f64, mu: f64, allowed: Allowance) -> Surviva
 }
 
 pub fn inverse_gaussian_cdf(x: f64, mu: f64, allowed: Allowance) -> Evaluation
-    ensures { λ r. ⌜ evaluated r ≡ limited (allowed .left) (tick (atOnce (sample (inverseGaussianCdf x mu) (inverseGaussianPdf x mu)))) ⌝ }
+    ensures { λ r. ⌜ viewEvaluation r ≡ limited (allowed .left) (tick (atOnce (sample (inverseGaussianCdf x mu) (inverseGaussianPdf x mu)))) ⌝ }
 {
     if allowed.left == 0 {
         return Evaluation::Spent;

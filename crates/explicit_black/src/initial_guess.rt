@@ -4,11 +4,11 @@ use arithmetic::mul_add::mul_add;
 use arithmetic::sqrt::sqrt;
 use special_function::normal_distribution::inverse_norm_cdf;
 ghost use mathlib.Core.Path.{_≡_};
-ghost use Rattle.explicit_black.specs.Curves.{proper, inverseGaussianQuantileInitialGuess, inverseGaussianQuantileInitialGuessFromZ, startingPoint};
+ghost use Rattle.explicit_black.specs.Curves.{finitePositive, inverseGaussianQuantileInitialGuess, inverseGaussianQuantileInitialGuessFromZ, startingPoint};
 
 // Whether x is finite and above 0.
-pub fn is_proper(x: f64) -> bool
-    ensures { λ r. ⌜ r ≡ proper x ⌝ }
+pub fn is_finite_positive(x: f64) -> bool
+    ensures { λ r. ⌜ r ≡ finitePositive x ⌝ }
 {
     if is_finite(x) { x > 0.0 } else { false }
 }
@@ -36,5 +36,5 @@ pub fn inverse_gaussian_quantile_initial_guess_from_z(z: f64, mu: f64) -> f64
 pub fn starting_point(guess: f64, mu: f64) -> f64
     ensures { λ r. ⌜ r ≡ startingPoint guess mu ⌝ }
 {
-    if is_proper(guess) { guess } else { mu }
+    if is_finite_positive(guess) { guess } else { mu }
 }

@@ -4,21 +4,21 @@ use crate::curves::Allowance;
 use crate::curves::Evaluation;
 use crate::curves::inverse_gaussian_cdf;
 use crate::initial_guess::inverse_gaussian_quantile_initial_guess;
-use crate::initial_guess::is_proper;
+use crate::initial_guess::is_finite_positive;
 use arithmetic::basic::abs;
 use arithmetic::basic::max;
 use arithmetic::basic::recip;
 use arithmetic::basic::signum;
+use arithmetic::constants::MIN_POSITIVE;
 use arithmetic::exp::exp;
 use arithmetic::ln::ln;
 use arithmetic::ln::ln_1p;
 use arithmetic::sqrt::sqrt;
-use special_function::constants::MIN_POSITIVE;
 use special_function::normal_distribution::inverse_norm_cdf;
 ghost use mathlib.Core.Path.{_≡_};
 ghost use Rattle.explicit_black.specs.Counted.{limited, have};
-ghost use Rattle.explicit_black.specs.Meanings.{newton, stepped, quantile};
-ghost use Rattle.explicit_black.specs.Newton.{seed, start, steps, inverseGaussianQuantileActuar, inverseGaussianModeStandardized, numerator, nrstep, converged, afterMove, first, later, last};
+ghost use Rattle.explicit_black.specs.Internal.Searches.{viewNewton, viewStepped, viewQuantile};
+ghost use Rattle.explicit_black.specs.Newton.{seed, initialX, steps, inverseGaussianQuantileActuar, inverseGaussianModeStandardized, numerator, nrstep, converged, afterMove, first, later, last};
 
 const ACTUAR_RELATIVE_QUANTILE_TOLERANCE: f64 = 1.0e-14;
 
@@ -60,11 +60,11 @@ fn seed(probability: f64, log_probability: f64, mu: f64) -> f64
 
 // The seed; where that is not finite and above 0 the mode, or the smallest normal value if that is
 // larger.
-fn start(probability: f64, log_probability: f64, mu: f64) -> f64
-    ensures { λ r. ⌜ r ≡ start probability «log_probability» mu ⌝ }
+fn initial_x(probability: f64, log_probability: f64, mu: f64) -> f64
+    ensures { λ r. ⌜ r ≡ initialX probability «log_probability» mu ⌝ }
 {
     let x = seed(probability, log_probability, mu);
-    if is_proper(x) {
+    if is_finite_positive(x) {
         return x;
     }
     max(inverse_gaussian_mode_standardized(mu), MIN_POSITIVE)
@@ -79,9 +79,9 @@ fn is_converged(dx: f64, x: f64) -> bool
 
 // x is the point after the move dx: no root where it is not finite and above 0, the root where the move was small.
 fn after_move(x: f64, dx: f64, direction: f64, mu: f64) -> Stepped
-    ensures { λ r. ⌜ stepped r ≡ afterMove mu x dx direction ⌝ }
+    ensures { λ r. ⌜ viewStepped r ≡ afterMove mu x dx direction ⌝ }
 {
-    if is_proper(x) {
+    if is_finite_positive(x) {
         if is_converged(dx, x) {
             return Stepped::Root(x * mu);
         }
@@ -93,7 +93,7 @@ fn after_move(x: f64, dx: f64, direction: f64, mu: f64) -> Stepped
 impl Newton {
     // After the first step, from x.
     pub fn first(self, x: f64, mu: f64) -> Stepped
-        ensures { λ r. ⌜ stepped r ≡ first mu x (newton self) ⌝ }
+        ensures { λ r. ⌜ viewStepped r ≡ first mu x (viewNewton self) ⌝ }
     {
         match self {
             Newton::Move(dx) => after_move(x + dx, dx, signum(dx), mu),
@@ -103,7 +103,7 @@ impl Newton {
 
     // After a later step, from x: one against the first direction ends the search.
     pub fn later(self, x: f64, direction: f64, mu: f64) -> Stepped
-        ensures { λ r. ⌜ stepped r ≡ later mu x direction (newton self) ⌝ }
+        ensures { λ r. ⌜ viewStepped r ≡ later mu x direction (viewNewton self) ⌝ }
     {
         match self {
             Newton::Move(dx) => {
@@ -120,7 +120,7 @@ impl Newton {
 impl Stepped {
     // The outcome where no step is left.
     pub fn last(self, mu: f64, left: Allowance) -> Quantile
-        ensures { λ r. ⌜ quantile r ≡ have (last mu (stepped self)) (left .left) ⌝ }
+        ensures { λ r. ⌜ viewQuantile r ≡ have (last mu (viewStepped self)) (left .left) ⌝ }
     {
         match self {
             Stepped::Root(root) => Quantile::Root(root, left),
@@ -138,7 +138,7 @@ fn steps(
     mu: f64,
     allowed: Allowance,
 ) -> Quantile
-    ensures { λ r. ⌜ quantile r ≡ limited (allowed .left) (steps probability «log_probability» mu (stepped begin)) ⌝ }
+    ensures { λ r. ⌜ viewQuantile r ≡ limited (allowed .left) (steps probability «log_probability» mu (viewStepped begin)) ⌝ }
 {
     let mut left = allowed;
     let mut next = begin;
@@ -162,10 +162,10 @@ fn steps(
 }
 
 pub fn inverse_gaussian_quantile_actuar(probability: f64, mu: f64, allowed: Allowance) -> Quantile
-    ensures { λ r. ⌜ quantile r ≡ limited (allowed .left) (inverseGaussianQuantileActuar probability mu) ⌝ }
+    ensures { λ r. ⌜ viewQuantile r ≡ limited (allowed .left) (inverseGaussianQuantileActuar probability mu) ⌝ }
 {
     let log_probability = ln(probability);
-    let x = start(probability, log_probability, mu);
+    let x = initial_x(probability, log_probability, mu);
     match inverse_gaussian_cdf(x * mu, mu, allowed) {
         Evaluation::Spent => Quantile::Spent,
         Evaluation::Value { cdf, pdf, rest } => {
@@ -204,9 +204,9 @@ fn numerator(cdf: f64, probability: f64, log_probability: f64) -> f64
 
 // The step that would bring `error` to 0 where the density is `pdf`.
 pub fn nrstep(pdf: f64, error: f64) -> Newton
-    ensures { λ r. ⌜ newton r ≡ nrstep pdf error ⌝ }
+    ensures { λ r. ⌜ viewNewton r ≡ nrstep pdf error ⌝ }
 {
-    if is_proper(pdf) {
+    if is_finite_positive(pdf) {
         return Newton::Move(error / pdf);
     }
     Newton::Refused

@@ -11,23 +11,23 @@ use crate::curves::Allowance;
 use crate::curves::Evaluation;
 use crate::curves::inverse_gaussian_cdf;
 use crate::initial_guess::inverse_gaussian_quantile_initial_guess;
-use crate::initial_guess::is_proper;
+use crate::initial_guess::is_finite_positive;
 use crate::initial_guess::starting_point;
 use crate::newton::Newton;
 use crate::newton::inverse_gaussian_quantile_actuar;
 use crate::newton::nrstep;
 use arithmetic::basic::abs;
 use arithmetic::basic::max;
-use special_function::constants::MIN_POSITIVE;
+use arithmetic::constants::MIN_POSITIVE;
 ghost use mathlib.Core.Path.{_≡_};
 ghost use mathlib.Core.Bool.{true};
 ghost use Rattle.explicit_black.specs.Counted.{limited, mapped, someOf};
-ghost use Rattle.explicit_black.specs.Curves.{proper};
-ghost use Rattle.explicit_black.specs.Meanings.{reached, quantile, newton, rounded};
-ghost use Rattle.explicit_black.specs.Quantile.{solvable, filtered, inverseGaussianQuantile, bracketAt, floor, raised, clamped, onward, moved, round, rounds, inverseGaussianQuantileBracketed};
+ghost use Rattle.explicit_black.specs.Curves.{finitePositive};
+ghost use Rattle.explicit_black.specs.Internal.Searches.{viewReach, viewQuantile, viewNewton, viewIteration};
+ghost use Rattle.explicit_black.specs.Quantile.{solvable, filtered, inverseGaussianQuantile, bracketAt, floor, raised, clamped, continueAt, moved, iteration, iterations, inverseGaussianQuantileBracketed};
 
 // What a round leads to: the root, or a narrower bracket with the next point.
-pub enum Rounded {
+pub enum Iteration {
     Root(f64),
     Again(Bracket, f64),
 }
@@ -38,7 +38,7 @@ pub fn is_solvable(probability: f64, mu: f64) -> bool
 {
     if probability > 0.0 {
         if probability < 1.0 {
-            is_proper(mu)
+            is_finite_positive(mu)
         } else {
             false
         }
@@ -50,11 +50,11 @@ pub fn is_solvable(probability: f64, mu: f64) -> bool
 impl Quantile {
     // A root that is not finite and above 0 is none.
     pub fn filtered(self) -> Quantile
-        ensures { λ r. ⌜ quantile r ≡ mapped filtered (quantile self) ⌝ }
+        ensures { λ r. ⌜ viewQuantile r ≡ mapped filtered (viewQuantile self) ⌝ }
     {
         match self {
             Quantile::Root(root, left) => {
-                if is_proper(root) {
+                if is_finite_positive(root) {
                     return Quantile::Root(root, left);
                 }
                 Quantile::None(left)
@@ -66,7 +66,7 @@ impl Quantile {
 }
 
 pub fn inverse_gaussian_quantile(probability: f64, mu: f64, allowed: Allowance) -> Quantile
-    ensures { λ r. ⌜ quantile r ≡ limited (allowed .left) (inverseGaussianQuantile probability mu) ⌝ }
+    ensures { λ r. ⌜ viewQuantile r ≡ limited (allowed .left) (inverseGaussianQuantile probability mu) ⌝ }
 {
     if !is_solvable(probability, mu) {
         return Quantile::None(allowed);
@@ -80,8 +80,8 @@ pub fn inverse_gaussian_quantile(probability: f64, mu: f64, allowed: Allowance) 
 
 // The bracket on the side that the value at x points to.
 fn bracket_at(x: f64, cdf: f64, mu: f64, probability: f64, allowed: Allowance) -> Reach
-    requires { ⌜ proper x ≡ true ⌝ }
-    ensures { λ r. ⌜ reached r ≡ limited (allowed .left) (someOf (bracketAt x cdf mu probability)) ⌝ }
+    requires { ⌜ finitePositive x ≡ true ⌝ }
+    ensures { λ r. ⌜ viewReach r ≡ limited (allowed .left) (someOf (bracketAt x cdf mu probability)) ⌝ }
 {
     if cdf < probability {
         bracket_quantile_from_below(x, mu, probability, allowed)
@@ -121,49 +121,49 @@ impl Bracket {
     }
 
     // On to the next point, unless that is x again.
-    fn onward(self, x: f64, next: f64) -> Rounded
-        ensures { λ r. ⌜ rounded r ≡ onward self x next ⌝ }
+    fn continue_at(self, x: f64, next: f64) -> Iteration
+        ensures { λ r. ⌜ viewIteration r ≡ continueAt self x next ⌝ }
     {
         if next == x {
-            return Rounded::Root(bracket_midpoint(self));
+            return Iteration::Root(bracket_midpoint(self));
         }
-        Rounded::Again(self, next)
+        Iteration::Again(self, next)
     }
 
     // A small step is the end; any other is taken if it stays inside the bracket.
-    fn moved(self, x: f64, step: Newton) -> Rounded
-        ensures { λ r. ⌜ rounded r ≡ moved self x (newton step) ⌝ }
+    fn moved(self, x: f64, step: Newton) -> Iteration
+        ensures { λ r. ⌜ viewIteration r ≡ moved self x (viewNewton step) ⌝ }
     {
         match step {
             Newton::Move(dx) => {
                 let next = x - dx;
                 if abs(dx) <= QUANTILE_BRACKET_TOLERANCE * max(x, 1.0) {
-                    return Rounded::Root(next);
+                    return Iteration::Root(next);
                 }
-                self.onward(x, self.chosen(next))
+                self.continue_at(x, self.chosen(next))
             }
-            Newton::Refused => self.onward(x, bracket_midpoint(self)),
+            Newton::Refused => self.continue_at(x, bracket_midpoint(self)),
         }
     }
 
     // One round, where at x the distribution is `cdf` and the density `pdf`.
-    pub fn round(self, x: f64, cdf: f64, pdf: f64, probability: f64) -> Rounded
-        ensures { λ r. ⌜ rounded r ≡ round pdf probability (self, x) cdf ⌝ }
+    pub fn iteration(self, x: f64, cdf: f64, pdf: f64, probability: f64) -> Iteration
+        ensures { λ r. ⌜ viewIteration r ≡ iteration pdf probability (self, x) cdf ⌝ }
     {
         let error = cdf - probability;
         if error == 0.0 {
-            return Rounded::Root(x);
+            return Iteration::Root(x);
         }
         let bracket = self.narrowed(x, error <= 0.0);
         if bracket_is_tight(bracket) {
-            return Rounded::Root(bracket_midpoint(bracket));
+            return Iteration::Root(bracket_midpoint(bracket));
         }
         bracket.moved(x, nrstep(pdf, error))
     }
 }
 
-fn rounds(start: Bracket, guess: f64, mu: f64, probability: f64, allowed: Allowance) -> Quantile
-    ensures { λ r. ⌜ quantile r ≡ limited (allowed .left) (someOf (rounds mu probability start guess)) ⌝ }
+fn iterations(start: Bracket, guess: f64, mu: f64, probability: f64, allowed: Allowance) -> Quantile
+    ensures { λ r. ⌜ viewQuantile r ≡ limited (allowed .left) (someOf (iterations mu probability start guess)) ⌝ }
 {
     let mut bracket = start;
     let mut x = guess;
@@ -173,9 +173,9 @@ fn rounds(start: Bracket, guess: f64, mu: f64, probability: f64, allowed: Allowa
             Evaluation::Spent => return Quantile::Spent,
             Evaluation::Value { cdf, pdf, rest } => {
                 left = rest;
-                match bracket.round(x, cdf, pdf, probability) {
-                    Rounded::Root(root) => return Quantile::Root(root, left),
-                    Rounded::Again(b, next) => {
+                match bracket.iteration(x, cdf, pdf, probability) {
+                    Iteration::Root(root) => return Quantile::Root(root, left),
+                    Iteration::Again(b, next) => {
                         bracket = b;
                         x = next;
                     }
@@ -191,15 +191,21 @@ pub(crate) fn inverse_gaussian_quantile_bracketed(
     mu: f64,
     allowed: Allowance,
 ) -> Quantile
-    requires { ⌜ proper mu ≡ true ⌝ }
-    ensures { λ r. ⌜ quantile r ≡ limited (allowed .left) (someOf (inverseGaussianQuantileBracketed probability mu)) ⌝ }
+    requires { ⌜ finitePositive mu ≡ true ⌝ }
+    ensures { λ r. ⌜ viewQuantile r ≡ limited (allowed .left) (someOf (inverseGaussianQuantileBracketed probability mu)) ⌝ }
 {
     let x = starting_point(inverse_gaussian_quantile_initial_guess(probability, mu), mu);
     let Evaluation::Value { cdf, pdf: _, rest } = inverse_gaussian_cdf(x, mu, allowed) else {
         return Quantile::Spent;
     };
     match bracket_at(x, cdf, mu, probability, rest) {
-        Reach::Found(bracket, left) => rounds(bracket, bracket.clamped(x), mu, probability, left),
+        Reach::Found(bracket, left) => iterations(
+            bracket,
+            bracket.clamped(x),
+            mu,
+            probability,
+            left,
+        ),
         Reach::None(left) => Quantile::None(left),
         Reach::Spent => Quantile::Spent,
     }

@@ -1,31 +1,31 @@
 // The entries: the total volatility and the volatility of a price, or the number of a refusal.
 use crate::counted::Quantile;
 use crate::curves::Allowance;
-use crate::initial_guess::is_proper;
+use crate::initial_guess::is_finite_positive;
 use crate::quantile::inverse_gaussian_quantile;
 use crate::survival::inverse_gaussian_quantile_from_survival;
 use arithmetic::basic::abs;
 use arithmetic::basic::is_finite;
 use arithmetic::basic::max;
+use arithmetic::constants::MIN_POSITIVE;
+use arithmetic::constants::SQRT_2;
 use arithmetic::exp::exp;
 use arithmetic::format::INFINITY;
 use arithmetic::sqrt::sqrt;
 use bs_option_price::negative_abs_log_moneyness;
-use special_function::constants::MIN_POSITIVE;
 use special_function::error_function::erfinv;
 ghost use mathlib.Core.Path.{_≡_};
 ghost use mathlib.Core.Bool.{_&&_};
 ghost use lib.Ieee.{lt};
 ghost use Rattle.arithmetic.specs.Basic.{isFinite};
-ghost use Rattle.arithmetic.specs.Operations.{_⊗_, nought};
+ghost use Rattle.arithmetic.specs.Operations.{_⊗_, plusZero};
 ghost use Rattle.arithmetic.specs.Sqrt.{sqrt};
 ghost use Rattle.bs_option_price.specs.BsOptionPrice.{negativeAbsLogMoneyness};
 ghost use Rattle.explicit_black.specs.Counted.{atOnce, mapped, limited};
-ghost use Rattle.explicit_black.specs.Meanings.{quantile};
-ghost use Rattle.explicit_black.specs.Quote.{impliedNormalisedVolatilityAtm, atTheMoney, totalAt, fromCallPrice, normalisedOutcome, impliedBlackVolatilityNormalised, firstRefusal, intrinsicValue, priceBound, normalisedTimeValue, boundTests, valued, priced, inputOutcome, impliedBlackVolatilityInput, volatility};
-ghost use Rattle.explicit_black.specs.Replies.{replied, solved, decided, Within, RepliesTo};
-
-const SQRT_2: f64 = 1.4142135623730951;
+ghost use Rattle.explicit_black.specs.Internal.Searches.{viewQuantile};
+ghost use Rattle.explicit_black.specs.Quote.{impliedNormalisedVolatilityAtm, atTheMoney, totalAt, fromCallPrice, fromNormalisedPrice, impliedBlackVolatilityNormalised, firstRefusal, intrinsicValue, priceBound, normalisedTimeValue, boundTests, fromTimeValue, fromPrice, fromQuote, impliedBlackVolatilityInput, volatility};
+ghost use Rattle.explicit_black.specs.Internal.Quote.{viewSolved, viewTested, LeftWithin, RepliesTo};
+ghost use Rattle.explicit_black.specs.Replies.{viewReply};
 
 // No quote makes more evaluations.
 const MAX_EVALUATIONS: u64 = 2263;
@@ -68,8 +68,8 @@ fn volatility(total: f64, time: f64, root_time: f64) -> f64
 impl Solved {
     // The reply of a quote that was allowed so many evaluations: its count is what its calls took off.
     fn reply(self, allowed: u64, time: f64, root_time: f64) -> Reply
-        requires { ⌜ («root_time» ≡ sqrt time) × Within allowed (solved self) ⌝ }
-        ensures { λ r. ⌜ RepliesTo allowed time (solved self) (replied r) ⌝ }
+        requires { ⌜ («root_time» ≡ sqrt time) × LeftWithin allowed (viewSolved self) ⌝ }
+        ensures { λ r. ⌜ RepliesTo allowed time (viewSolved self) (viewReply r) ⌝ }
     {
         match self {
             Solved::Total(total, rest) => Reply::Answer {
@@ -98,7 +98,7 @@ fn implied_normalised_volatility_atm(beta: f64) -> f64
 
 // Refused where the value is NaN or below 0.
 fn at_the_money(price: f64, allowed: Allowance) -> Solved
-    ensures { λ r. ⌜ solved r ≡ limited (allowed .left) (atOnce (atTheMoney price)) ⌝ }
+    ensures { λ r. ⌜ viewSolved r ≡ limited (allowed .left) (atOnce (atTheMoney price)) ⌝ }
 {
     let total = implied_normalised_volatility_atm(price);
     if total >= 0.0 {
@@ -108,12 +108,12 @@ fn at_the_money(price: f64, allowed: Allowance) -> Solved
 }
 
 // Refused where there is no root that is finite and above 0.
-fn total(root: Quantile) -> Solved
-    ensures { λ r. ⌜ solved r ≡ mapped totalAt (quantile root) ⌝ }
+fn total_at(root: Quantile) -> Solved
+    ensures { λ r. ⌜ viewSolved r ≡ mapped totalAt (viewQuantile root) ⌝ }
 {
     match root {
         Quantile::Root(x, left) => {
-            if is_proper(x) {
+            if is_finite_positive(x) {
                 return Solved::Total(2.0 / sqrt(x), left);
             }
             Solved::Refused(9, left)
@@ -125,10 +125,10 @@ fn total(root: Quantile) -> Solved
 
 // The price is given as a fraction of its bound.
 fn from_call_price(otm_call_price: f64, mu: f64, allowed: Allowance) -> Solved
-    ensures { λ r. ⌜ solved r ≡ limited (allowed .left) (fromCallPrice «otm_call_price» mu) ⌝ }
+    ensures { λ r. ⌜ viewSolved r ≡ limited (allowed .left) (fromCallPrice «otm_call_price» mu) ⌝ }
 {
     if otm_call_price < 1.0e-5 {
-        return total(inverse_gaussian_quantile_from_survival(otm_call_price, mu, allowed));
+        return total_at(inverse_gaussian_quantile_from_survival(otm_call_price, mu, allowed));
     }
     let probability = 1.0 - otm_call_price;
     if probability <= 0.0 {
@@ -137,12 +137,12 @@ fn from_call_price(otm_call_price: f64, mu: f64, allowed: Allowance) -> Solved
     if probability >= 1.0 {
         return Solved::Total(0.0, allowed);
     }
-    total(inverse_gaussian_quantile(probability, mu, allowed))
+    total_at(inverse_gaussian_quantile(probability, mu, allowed))
 }
 
 // The normalised entry after its test for figures that are not finite, with an allowance.
-pub fn normalised_outcome(log_moneyness: f64, price: f64, allowed: Allowance) -> Solved
-    ensures { λ r. ⌜ solved r ≡ limited (allowed .left) (normalisedOutcome «log_moneyness» price) ⌝ }
+pub fn from_normalised_price(log_moneyness: f64, price: f64, allowed: Allowance) -> Solved
+    ensures { λ r. ⌜ viewSolved r ≡ limited (allowed .left) (fromNormalisedPrice «log_moneyness» price) ⌝ }
 {
     if price <= 0.0 {
         if price == 0.0 {
@@ -165,7 +165,7 @@ pub fn normalised_outcome(log_moneyness: f64, price: f64, allowed: Allowance) ->
 }
 
 pub fn implied_black_volatility_normalised(log_moneyness: f64, normalised_price: f64) -> Reply
-    ensures { λ r. ⌜ replied r ≡ impliedBlackVolatilityNormalised «log_moneyness» «normalised_price» ⌝ }
+    ensures { λ r. ⌜ viewReply r ≡ impliedBlackVolatilityNormalised «log_moneyness» «normalised_price» ⌝ }
 {
     if !are_finite(log_moneyness, normalised_price) {
         return Reply::Refusal {
@@ -175,12 +175,12 @@ pub fn implied_black_volatility_normalised(log_moneyness: f64, normalised_price:
     }
     // as at time 1
     let allowed = Allowance::new(MAX_EVALUATIONS);
-    let solved = normalised_outcome(log_moneyness, normalised_price, allowed);
+    let solved = from_normalised_price(log_moneyness, normalised_price, allowed);
     solved.reply(MAX_EVALUATIONS, 1.0, 1.0)
 }
 
 fn are_above_zero(forward: f64, strike: f64) -> bool
-    ensures { λ r. ⌜ r ≡ (lt nought forward && lt nought strike) ⌝ }
+    ensures { λ r. ⌜ r ≡ (lt plusZero forward && lt plusZero strike) ⌝ }
 {
     forward > 0.0 && strike > 0.0
 }
@@ -232,8 +232,8 @@ fn normalised_time_value(price: f64, intrinsic: f64, roots: f64) -> f64
 }
 
 // From the normalised time value on.
-pub fn valued(forward: f64, strike: f64, time_value: f64, allowed: Allowance) -> Solved
-    ensures { λ r. ⌜ solved r ≡ limited (allowed .left) (valued (negativeAbsLogMoneyness forward strike) «time_value») ⌝ }
+pub fn from_time_value(forward: f64, strike: f64, time_value: f64, allowed: Allowance) -> Solved
+    ensures { λ r. ⌜ viewSolved r ≡ limited (allowed .left) (fromTimeValue (negativeAbsLogMoneyness forward strike) «time_value») ⌝ }
 {
     if time_value <= MIN_POSITIVE {
         if time_value >= 0.0 {
@@ -241,7 +241,7 @@ pub fn valued(forward: f64, strike: f64, time_value: f64, allowed: Allowance) ->
         }
         return Solved::Refused(7, allowed);
     }
-    normalised_outcome(
+    from_normalised_price(
         negative_abs_log_moneyness(forward, strike),
         time_value,
         allowed,
@@ -257,7 +257,7 @@ pub enum Tested {
 
 // Tests 5 and 6.
 pub fn bound_tests(price: f64, intrinsic: f64, bound: f64, time: f64) -> Tested
-    ensures { λ r. ⌜ decided r ≡ boundTests price intrinsic bound time ⌝ }
+    ensures { λ r. ⌜ viewTested r ≡ boundTests price intrinsic bound time ⌝ }
 {
     if time == 0.0 {
         if price == max(intrinsic, 0.0) {
@@ -275,7 +275,7 @@ pub fn bound_tests(price: f64, intrinsic: f64, bound: f64, time: f64) -> Tested
 }
 
 // After tests 5 and 6: the solver, which is given the roots.
-pub fn below_bound(
+pub fn from_roots(
     price: f64,
     intrinsic: f64,
     forward: f64,
@@ -284,14 +284,14 @@ pub fn below_bound(
     root_strike: f64,
     allowed: Allowance,
 ) -> Solved
-    ensures { λ r. ⌜ solved r ≡ limited (allowed .left) (valued (negativeAbsLogMoneyness forward strike) (normalisedTimeValue price intrinsic («root_forward» ⊗ «root_strike»))) ⌝ }
+    ensures { λ r. ⌜ viewSolved r ≡ limited (allowed .left) (fromTimeValue (negativeAbsLogMoneyness forward strike) (normalisedTimeValue price intrinsic («root_forward» ⊗ «root_strike»))) ⌝ }
 {
     let time_value = normalised_time_value(price, intrinsic, root_forward * root_strike);
-    valued(forward, strike, time_value, allowed)
+    from_time_value(forward, strike, time_value, allowed)
 }
 
 // From the price on.
-pub fn priced(
+pub fn from_price(
     price: f64,
     intrinsic: f64,
     bound: f64,
@@ -300,12 +300,12 @@ pub fn priced(
     time: f64,
     allowed: Allowance,
 ) -> Solved
-    ensures { λ r. ⌜ solved r ≡ limited (allowed .left) (priced price intrinsic bound (sqrt forward ⊗ sqrt strike) (negativeAbsLogMoneyness forward strike) time) ⌝ }
+    ensures { λ r. ⌜ viewSolved r ≡ limited (allowed .left) (fromPrice price intrinsic bound (sqrt forward ⊗ sqrt strike) (negativeAbsLogMoneyness forward strike) time) ⌝ }
 {
     match bound_tests(price, intrinsic, bound, time) {
         Tested::Total(total) => Solved::Total(total, allowed),
         Tested::Refused(number) => Solved::Refused(number, allowed),
-        Tested::Open => below_bound(
+        Tested::Open => from_roots(
             price,
             intrinsic,
             forward,
@@ -318,7 +318,7 @@ pub fn priced(
 }
 
 // A quote with an allowance.
-pub fn input_outcome(
+pub fn from_quote(
     side: u32,
     price: f64,
     forward: f64,
@@ -326,7 +326,7 @@ pub fn input_outcome(
     time: f64,
     allowed: Allowance,
 ) -> Solved
-    ensures { λ r. ⌜ solved r ≡ limited (allowed .left) (inputOutcome side price forward strike time) ⌝ }
+    ensures { λ r. ⌜ viewSolved r ≡ limited (allowed .left) (fromQuote side price forward strike time) ⌝ }
 {
     let number = first_refusal(side, price, forward, strike, time);
     if number != 0 {
@@ -334,7 +334,7 @@ pub fn input_outcome(
     }
     let intrinsic = intrinsic_value(side, forward, strike);
     let bound = price_bound(side, forward, strike);
-    priced(price, intrinsic, bound, forward, strike, time, allowed)
+    from_price(price, intrinsic, bound, forward, strike, time, allowed)
 }
 
 pub fn implied_black_volatility_input(
@@ -344,9 +344,9 @@ pub fn implied_black_volatility_input(
     strike: f64,
     time: f64,
 ) -> Reply
-    ensures { λ r. ⌜ replied r ≡ impliedBlackVolatilityInput side price forward strike time ⌝ }
+    ensures { λ r. ⌜ viewReply r ≡ impliedBlackVolatilityInput side price forward strike time ⌝ }
 {
     let allowed = Allowance::new(MAX_EVALUATIONS);
-    let solved = input_outcome(side, price, forward, strike, time, allowed);
+    let solved = from_quote(side, price, forward, strike, time, allowed);
     solved.reply(MAX_EVALUATIONS, time, sqrt(time))
 }

@@ -11,22 +11,22 @@ use crate::curves::SurvivalEvaluation;
 use crate::curves::inverse_gaussian_pdf;
 use crate::curves::inverse_gaussian_survival;
 use crate::initial_guess::inverse_gaussian_quantile_initial_guess_from_z;
-use crate::initial_guess::is_proper;
+use crate::initial_guess::is_finite_positive;
 use crate::initial_guess::starting_point;
 use crate::newton::Newton;
-use crate::quantile::Rounded;
+use crate::quantile::Iteration;
 use crate::quantile::is_solvable;
 use arithmetic::basic::abs;
 use arithmetic::basic::min;
+use arithmetic::constants::MAX;
 use arithmetic::ln::ln;
-use special_function::constants::MAX;
 use special_function::normal_distribution::inverse_norm_cdf;
 ghost use mathlib.Core.Path.{_≡_};
 ghost use mathlib.Core.Bool.{true};
 ghost use Rattle.explicit_black.specs.Counted.{limited, someOf};
-ghost use Rattle.explicit_black.specs.Curves.{proper};
-ghost use Rattle.explicit_black.specs.Meanings.{reached, quantile, newton, rounded, widening, doubling};
-ghost use Rattle.explicit_black.specs.Survival.{cappedFrom, survivalWidened, survivalFromBelow, survivalLowered, survivalFromAbove, survivalBracketAt, far, survivalStep, survivalNewton, survivalMoved, survivalRound, survivalRounds, inverseGaussianQuantileFromSurvival};
+ghost use Rattle.explicit_black.specs.Curves.{finitePositive};
+ghost use Rattle.explicit_black.specs.Internal.Searches.{viewReach, viewQuantile, viewNewton, viewIteration, viewWidening, viewDoubling};
+ghost use Rattle.explicit_black.specs.Survival.{cappedFrom, survivalWidened, survivalFromBelow, survivalLowered, survivalFromAbove, survivalBracketAt, far, survivalStep, survivalNewton, survivalMoved, survivalIteration, survivalIterations, inverseGaussianQuantileFromSurvival};
 
 // What a value at the upper bound leads to: the bracket holds the root, a wider one is to be tried,
 // or there is no finite one.
@@ -49,7 +49,7 @@ impl Bracket {
 
     // What is next at the upper bound.
     pub fn survival_widened(self, survival: f64, probability: f64) -> Doubling
-        ensures { λ r. ⌜ doubling r ≡ survivalWidened probability self survival ⌝ }
+        ensures { λ r. ⌜ viewDoubling r ≡ survivalWidened probability self survival ⌝ }
     {
         if survival <= probability {
             return Doubling::Reached(self);
@@ -62,7 +62,7 @@ impl Bracket {
 
     // What is next at the lower bound.
     pub fn survival_lowered(self, survival: f64, probability: f64) -> Widening
-        ensures { λ r. ⌜ widening r ≡ survivalLowered probability self survival ⌝ }
+        ensures { λ r. ⌜ viewWidening r ≡ survivalLowered probability self survival ⌝ }
     {
         if survival >= probability {
             return Widening::Reached(self);
@@ -71,40 +71,40 @@ impl Bracket {
     }
 
     // A small step is the end; any other is taken if it stays inside the bracket.
-    fn survival_moved(self, x: f64, step: Newton) -> Rounded
-        ensures { λ r. ⌜ rounded r ≡ survivalMoved self x (newton step) ⌝ }
+    fn survival_moved(self, x: f64, step: Newton) -> Iteration
+        ensures { λ r. ⌜ viewIteration r ≡ survivalMoved self x (viewNewton step) ⌝ }
     {
         match step {
             Newton::Move(dx) => {
                 let next = x + dx;
                 if abs(dx) <= QUANTILE_BRACKET_TOLERANCE * x {
-                    return Rounded::Root(next);
+                    return Iteration::Root(next);
                 }
-                Rounded::Again(self, self.chosen(next))
+                Iteration::Again(self, self.chosen(next))
             }
-            Newton::Refused => Rounded::Again(self, bracket_midpoint(self)),
+            Newton::Refused => Iteration::Again(self, bracket_midpoint(self)),
         }
     }
 
     // One round, where at x the survival is `survival` and the density `pdf`.
-    pub fn survival_round(self, x: f64, survival: f64, pdf: f64, probability: f64) -> Rounded
-        ensures { λ r. ⌜ rounded r ≡ survivalRound pdf probability (self, x) survival ⌝ }
+    pub fn survival_iteration(self, x: f64, survival: f64, pdf: f64, probability: f64) -> Iteration
+        ensures { λ r. ⌜ viewIteration r ≡ survivalIteration pdf probability (self, x) survival ⌝ }
     {
         let error = survival - probability;
         if error == 0.0 {
-            return Rounded::Root(x);
+            return Iteration::Root(x);
         }
         let bracket = self.narrowed(x, error > 0.0);
         if bracket_is_tight(bracket) {
-            return Rounded::Root(bracket_midpoint(bracket));
+            return Iteration::Root(bracket_midpoint(bracket));
         }
         bracket.survival_moved(x, survival_newton(survival, probability, pdf))
     }
 }
 
 fn from_below(initial: f64, mu: f64, probability: f64, allowed: Allowance) -> Reach
-    requires { ⌜ proper initial ≡ true ⌝ }
-    ensures { λ r. ⌜ reached r ≡ limited (allowed .left) (survivalFromBelow initial mu probability) ⌝ }
+    requires { ⌜ finitePositive initial ≡ true ⌝ }
+    ensures { λ r. ⌜ viewReach r ≡ limited (allowed .left) (survivalFromBelow initial mu probability) ⌝ }
 {
     let mut bracket = Bracket::capped_from(initial);
     let mut left = allowed;
@@ -129,8 +129,8 @@ fn from_below(initial: f64, mu: f64, probability: f64, allowed: Allowance) -> Re
 }
 
 fn from_above(initial: f64, mu: f64, probability: f64, allowed: Allowance) -> Reach
-    requires { ⌜ proper initial ≡ true ⌝ }
-    ensures { λ r. ⌜ reached r ≡ limited (allowed .left) (someOf (survivalFromAbove initial mu probability)) ⌝ }
+    requires { ⌜ finitePositive initial ≡ true ⌝ }
+    ensures { λ r. ⌜ viewReach r ≡ limited (allowed .left) (someOf (survivalFromAbove initial mu probability)) ⌝ }
 {
     let mut trial = Bracket::halved(initial, initial);
     let mut left = allowed;
@@ -161,8 +161,8 @@ fn survival_bracket_at(
     probability: f64,
     allowed: Allowance,
 ) -> Reach
-    requires { ⌜ proper x ≡ true ⌝ }
-    ensures { λ r. ⌜ reached r ≡ limited (allowed .left) (survivalBracketAt x survival mu probability) ⌝ }
+    requires { ⌜ finitePositive x ≡ true ⌝ }
+    ensures { λ r. ⌜ viewReach r ≡ limited (allowed .left) (survivalBracketAt x survival mu probability) ⌝ }
 {
     if survival > probability {
         from_below(x, mu, probability, allowed)
@@ -193,22 +193,22 @@ fn survival_step(survival: f64, probability: f64, pdf: f64) -> f64
 }
 
 fn survival_newton(survival: f64, probability: f64, pdf: f64) -> Newton
-    ensures { λ r. ⌜ newton r ≡ survivalNewton survival probability pdf ⌝ }
+    ensures { λ r. ⌜ viewNewton r ≡ survivalNewton survival probability pdf ⌝ }
 {
-    if is_proper(pdf) {
+    if is_finite_positive(pdf) {
         return Newton::Move(survival_step(survival, probability, pdf));
     }
     Newton::Refused
 }
 
-fn survival_rounds(
+fn survival_iterations(
     start: Bracket,
     guess: f64,
     mu: f64,
     probability: f64,
     allowed: Allowance,
 ) -> Quantile
-    ensures { λ r. ⌜ quantile r ≡ limited (allowed .left) (someOf (survivalRounds mu probability start guess)) ⌝ }
+    ensures { λ r. ⌜ viewQuantile r ≡ limited (allowed .left) (someOf (survivalIterations mu probability start guess)) ⌝ }
 {
     let mut bracket = start;
     let mut x = guess;
@@ -224,9 +224,9 @@ fn survival_rounds(
             } => {
                 left = rest;
                 let pdf = inverse_gaussian_pdf(x, sqrt_x, a);
-                match bracket.survival_round(x, survival, pdf, probability) {
-                    Rounded::Root(root) => return Quantile::Root(root, left),
-                    Rounded::Again(b, next) => {
+                match bracket.survival_iteration(x, survival, pdf, probability) {
+                    Iteration::Root(root) => return Quantile::Root(root, left),
+                    Iteration::Again(b, next) => {
                         bracket = b;
                         x = next;
                     }
@@ -242,7 +242,7 @@ pub fn inverse_gaussian_quantile_from_survival(
     mu: f64,
     allowed: Allowance,
 ) -> Quantile
-    ensures { λ r. ⌜ quantile r ≡ limited (allowed .left) (inverseGaussianQuantileFromSurvival probability mu) ⌝ }
+    ensures { λ r. ⌜ viewQuantile r ≡ limited (allowed .left) (inverseGaussianQuantileFromSurvival probability mu) ⌝ }
 {
     if !is_solvable(probability, mu) {
         return Quantile::None(allowed);
@@ -259,7 +259,7 @@ pub fn inverse_gaussian_quantile_from_survival(
         return Quantile::Spent;
     };
     match survival_bracket_at(x, survival, mu, probability, rest) {
-        Reach::Found(bracket, left) => survival_rounds(bracket, x, mu, probability, left),
+        Reach::Found(bracket, left) => survival_iterations(bracket, x, mu, probability, left),
         Reach::None(left) => Quantile::None(left),
         Reach::Spent => Quantile::Spent,
     }

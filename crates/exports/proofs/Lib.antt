@@ -1,1 +1,1 @@
-mod Lining
+mod SheetLine

@@ -6,7 +6,7 @@ use lib.Ieee.{Float}
 use lib.ListN.{length}
 use Rattle.explicit_black.specs.Quote.{Reply, answer, refusal}
 use Rattle.xdr_sheet.specs.Sheet.{Size, quotes, refused, Quoted, quoted, noQuote}
-use Rattle.xdr_sheet.specs.Lines.{fitsInto, overlaid}
+use Rattle.xdr_sheet.specs.Internal.Lines.{fitsInto, overlaid}
 use Rattle.xdr_sheet.specs.Printing.{Step}
 
 -- the number, and total volatility, volatility and count at their places

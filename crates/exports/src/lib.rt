@@ -19,7 +19,7 @@ ghost use Rattle.special_function.specs.NormalDistribution.{normPdf, normCdf, i
 ghost use Rattle.bs_option_price.specs.BsOptionPrice.{normalisedBlack, negativeAbsLogMoneyness};
 ghost use Rattle.explicit_black.specs.Curves.{inverseGaussianCdf, inverseGaussianSurvival};
 ghost use Rattle.explicit_black.specs.Quote.{impliedBlackVolatilityNormalised, impliedBlackVolatilityInput};
-ghost use Rattle.explicit_black.specs.Replies.{replied};
+ghost use Rattle.explicit_black.specs.Replies.{viewReply};
 ghost use Rattle.xdr_sheet.specs.Sheet.{size, quotedAt};
 ghost use Rattle.xdr_sheet.specs.Printing.{step};
 ghost use Rattle.exports.specs.Handed.{handed, handing, handingOf, counting, countingOf, lined, lining};
@@ -162,7 +162,7 @@ pub extern "C" fn quoter_inverse_gaussian_survival(x: f64, mu: f64) -> f64
 
 // Writes a reply to the caller's places; a refusal writes no figure.
 fn hand(reply: Reply, total: &mut f64, volatility: &mut f64, count: &mut u64) -> u32
-    ensures { λ r. ⌜ handed r (now (total .exit)) (now (volatility .exit)) (now (count .exit)) ≡ handing (now (total .entry)) (now (volatility .entry)) (replied reply) ⌝ }
+    ensures { λ r. ⌜ handed r (now (total .exit)) (now (volatility .exit)) (now (count .exit)) ≡ handing (now (total .entry)) (now (volatility .entry)) (viewReply reply) ⌝ }
 {
     match reply {
         Reply::Answer {

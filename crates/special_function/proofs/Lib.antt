@@ -1,2 +1,2 @@
 -- What only this crate needs: the end of the asymptotic expansion.
-pub mod Ending
+pub mod AsymptoticSum

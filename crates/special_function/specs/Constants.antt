@@ -1,4 +1,4 @@
--- The constants of constants.rs that the kept functions use, by the bits that the source gives, and Rust's FRAC_1_SQRT_2. Definitions only.
+-- The constants of constants.rs that the kept functions use, by the bits that the source gives. Definitions only.
 use lib.Ieee.{Float}
 use Rattle.arithmetic.specs.Operations.{bits}
 
@@ -10,6 +10,3 @@ sixteenthRootDblEpsilon = bits 0x3FBA_E89F_995A_D3AE
 
 abbrev pub frac1Sqrt2Pi : Float
 frac1Sqrt2Pi = bits 0x3FD9_8845_33D4_3650
-
-abbrev pub frac1Sqrt2 : Float
-frac1Sqrt2 = bits 0x3FE6_A09E_667F_3BCD

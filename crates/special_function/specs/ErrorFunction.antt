@@ -2,7 +2,7 @@
 use mathlib.Core.List.{List, [], _∷_}
 use mathlib.Core.Bool.{cond}
 use lib.Ieee.{Float, neg, lt, le}
-use Rattle.arithmetic.specs.Operations.{_⊕_, _⊖_, _⊗_, _⊘_, bits, nought, one, two, maxFinite}
+use Rattle.arithmetic.specs.Operations.{_⊕_, _⊖_, _⊗_, _⊘_, bits, plusZero, one, two, maxFinite}
 use Rattle.arithmetic.specs.Basic.{abs, signum, trunc, recip, mulAdd2Sel}
 use Rattle.arithmetic.specs.Exp.{exp}
 use Rattle.special_function.specs.Polynomial.{evaluate, _at_, part}
@@ -125,19 +125,19 @@ erfCody x =
     let y = abs x in
     cond (le y threshold) (x ⊗ ab (y ⊗ y))
     (cond (le xbig y) (signum x)
-    (cond (lt x nought) (mulAdd2Sel (erfcxCodyAboveThreshold y) (smoothenedExponentialOfNegativeSquare y) (neg one))
+    (cond (lt x plusZero) (mulAdd2Sel (erfcxCodyAboveThreshold y) (smoothenedExponentialOfNegativeSquare y) (neg one))
     (mulAdd2Sel (erfcxCodyAboveThreshold y) (neg (smoothenedExponentialOfNegativeSquare y)) one)))
 
 -- erfc y, for y above the threshold
 unfoldable pub erfcAboveThreshold : Float → Float
-erfcAboveThreshold y = cond (le xbig y) nought (erfcxCodyAboveThreshold y ⊗ smoothenedExponentialOfNegativeSquare y)
+erfcAboveThreshold y = cond (le xbig y) plusZero (erfcxCodyAboveThreshold y ⊗ smoothenedExponentialOfNegativeSquare y)
 
 -- erfc x, which is 1 - erf x; below 0 as 2 - erfc |x|
 unfoldable pub erfcCody : Float → Float
 erfcCody x =
     let y = abs x in
     cond (le y threshold) (mulAdd2Sel (neg (ab (y ⊗ y))) x one)
-    (cond (lt x nought) (two ⊖ erfcAboveThreshold y) (erfcAboveThreshold y))
+    (cond (lt x plusZero) (two ⊖ erfcAboveThreshold y) (erfcAboveThreshold y))
 
 -- exp x² times erfc x; below 0 as 2 exp x² less that of |x|
 unfoldable pub erfcxCody : Float → Float
@@ -145,5 +145,5 @@ erfcxCody x =
     let y = abs x in
     cond (le y threshold) (exp (y ⊗ y) ⊗ mulAdd2Sel (neg (ab (y ⊗ y))) x one)
     (cond (lt x xneg) maxFinite
-    (cond (lt x nought) (mulAdd2Sel (smoothenedExponentialOfPositiveSquare x) two (neg (erfcxCodyAboveThreshold y)))
+    (cond (lt x plusZero) (mulAdd2Sel (smoothenedExponentialOfPositiveSquare x) two (neg (erfcxCodyAboveThreshold y)))
     (erfcxCodyAboveThreshold y)))

@@ -1,7 +1,7 @@
 -- Values at Cody's cuts, which are inclusive below, and at the ends, as antt computes them and as the Rust has them. Assumes nothing.
 use mathlib.Core.Path.{_≡_, refl}
 use lib.Ieee.{add, sub, mul, div, neg, lt, le, ofBits}
-use Rattle.arithmetic.specs.Operations.{bits, nought, maxFinite}
+use Rattle.arithmetic.specs.Operations.{bits, plusZero, maxFinite}
 use Rattle.arithmetic.specs.Basic.{abs, trunc}
 use Rattle.arithmetic.specs.Exp.{exp}
 use Rattle.special_function.specs.Polynomial.{evaluate}
@@ -27,7 +27,7 @@ unfolding erfcxCody erfcxCodyAboveThreshold ab cd pq evaluate exp abs add sub mu
 cuts = (refl, refl)
 
 -- erfc is 0 from 26.543 up, and erfcx the largest value below XNEG
-pub ends : (erfcCody xbig ≡ nought)
+pub ends : (erfcCody xbig ≡ plusZero)
     × (erfcCody (bits 0x403A_8B02_0C49_BA5D) ≡ bits 0x0010_38A0_55F6_D6BA)
     × (erfcxCody xneg ≡ bits 0x7FEF_FFFF_FFFF_5840)
     × (erfcxCody (bits 0xC03A_A0F4_D2E0_63B6) ≡ maxFinite)

@@ -4,7 +4,6 @@ pub mod Polynomial
 pub mod ErrorFunction
 pub mod NormalDistribution
 pub mod Erfinv
-pub mod Shared
+pub mod Internal
 pub mod Laws
-pub mod LawsShared
 pub mod Examples

@@ -3,12 +3,11 @@ use mathlib.Core.List.{List, [], _∷_}
 use mathlib.Core.Bool.{Bool, true, false, _&&_, cond}
 use Prim.Native.Nat.{ℕ, zero, suc, _^_}
 use lib.Ieee.{Float, neg, lt, le}
-use Rattle.arithmetic.specs.Operations.{_⊕_, _⊖_, _⊗_, _⊘_, bits, nought, half, one, maxFinite, epsilon}
+use Rattle.arithmetic.specs.Operations.{_⊕_, _⊖_, _⊗_, _⊘_, bits, plusZero, half, one, maxFinite, epsilon, frac1Sqrt2}
 use Rattle.arithmetic.specs.Basic.{abs, mulAdd2Sel}
 use Rattle.arithmetic.specs.Sqrt.{sqrt}
 use Rattle.arithmetic.specs.Exp.{exp}
 use Rattle.arithmetic.specs.Ln.{ln}
-use Rattle.special_function.specs.Constants.{frac1Sqrt2}
 use Rattle.special_function.specs.Polynomial.{nested}
 use Rattle.special_function.specs.ErrorFunction.{erfcCody}
 use Rattle.special_function.specs.declared.normal_distribution.Expansion.{Expansion}
@@ -43,8 +42,8 @@ sumFrom (suc turns) false zsqr s = s .sum
 sumFrom (suc turns) true zsqr s = sumFrom turns (goesOn (s .a) (next zsqr s)) zsqr (next zsqr s)
 
 -- what the loop starts from
-abbrev pub start : Expansion
-start = record { sum = one; g = one; i = bits 0x4010_0000_0000_0000; a = maxFinite }
+abbrev pub initialExpansion : Expansion
+initialExpansion = record { sum = one; g = one; i = bits 0x4010_0000_0000_0000; a = maxFinite }
 
 -- More turns than the loop can take: a term's size is a whole number of 2 ^ -1074 below 2 ^ 1024, and it falls or the loop stops.
 -- `asymptotic-sum-stops` of proofs/Ending is the theorem.
@@ -54,7 +53,7 @@ turns = 2 ^ 2098
 -- the sum where the source's loop stops
 unfoldable pub asymptoticSum : Float → Float
 unfolding sumFrom turns
-asymptoticSum zsqr = sumFrom turns true zsqr start
+asymptoticSum zsqr = sumFrom turns true zsqr initialExpansion
 
 -- from the first down to the second the expansion is summed; below the second it is 1
 abbrev pub firstThreshold : Float
@@ -219,4 +218,4 @@ unfoldable pub inverseNormCdf : Float → Float
 inverseNormCdf p =
     let u = p ⊖ half in
     cond (lt (abs u) uMax) (inverseNormCdfmHalfForMidrangeProbabilities u)
-    (cond (lt nought u) (neg (inverseNormCdfForLowProbabilities (one ⊖ p))) (inverseNormCdfForLowProbabilities p))
+    (cond (lt plusZero u) (neg (inverseNormCdfForLowProbabilities (one ⊖ p))) (inverseNormCdfForLowProbabilities p))

@@ -3,7 +3,7 @@ use mathlib.Core.List.{List, [], _∷_}
 use Prim.Native.Nat.{ℕ, _-_}
 use lib.ListN.{getD, take, drop}
 use lib.Ieee.{Float, nan}
-use Rattle.arithmetic.specs.Operations.{nought}
+use Rattle.arithmetic.specs.Operations.{plusZero}
 use Rattle.arithmetic.specs.Basic.{mulAdd2Sel}
 
 -- the source's chain `value.mul_add2_sel(z, c)`: the value times z, plus the next coefficient; with none left, the value
@@ -19,7 +19,7 @@ nestedFrom z value (c ∷ cs) = nestedFrom z (mulAdd2Sel z value c) cs
 -- the innermost value is the first coefficient; with none, it is 0
 unfoldable pub nested : Float → List Float → Float
 unfolding nestedFrom
-nested z [] = nought
+nested z [] = plusZero
 nested z (c ∷ cs) = nestedFrom z c cs
 
 infixl 8 _at_

@@ -2,8 +2,6 @@
 ghost use mathlib.Core.Path.{_≡_};
 ghost use Rattle.special_function.specs.ErrorFunction.{ab, cd, pq, smoothenedExponentialOfNegativeSquare, smoothenedExponentialOfPositiveSquare, erfCody, erfcAboveThreshold, erfcCody, erfcxCodyAboveThreshold, erfcxCody};
 ghost use Rattle.special_function.specs.Erfinv.{erfinv};
-use crate::constants::FRAC_1_SQRT_2;
-use crate::constants::MAX;
 use crate::normal_distribution::U_MAX;
 use crate::normal_distribution::inverse_norm_cdf_for_low_probabilities;
 use crate::normal_distribution::inverse_norm_cdfm_half_for_midrange_probabilities;
@@ -12,6 +10,8 @@ use arithmetic::basic::abs;
 use arithmetic::basic::recip;
 use arithmetic::basic::signum;
 use arithmetic::basic::trunc;
+use arithmetic::constants::FRAC_1_SQRT_2;
+use arithmetic::constants::MAX;
 use arithmetic::exp::exp;
 use arithmetic::exp::exp_product;
 use arithmetic::fused_multiply_add::mul_add2_sel;

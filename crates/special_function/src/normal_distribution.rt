@@ -1,13 +1,13 @@
 // The normal distribution: density, cumulative probability and its inverse.
 ghost use mathlib.Core.Path.{_≡_};
-ghost use Rattle.special_function.specs.Shared.{same, normPdfOfSquare};
+ghost use Rattle.special_function.specs.Internal.SharedExponential.{same, normPdfOfSquare};
 ghost use Rattle.special_function.specs.NormalDistribution.{normPdf, next, goesOn, asymptoticSum, normCdf, inverseNormCdfmHalfForMidrangeProbabilities, inverseNormCdfForLowProbabilities, inverseNormCdf};
-use crate::constants::EPSILON;
-use crate::constants::FRAC_1_SQRT_2;
-use crate::constants::MAX;
 use crate::error_function::erfc_cody;
 use crate::polynomial::rational;
 use arithmetic::basic::abs;
+use arithmetic::constants::EPSILON;
+use arithmetic::constants::FRAC_1_SQRT_2;
+use arithmetic::constants::MAX;
 use arithmetic::exp::exp;
 use arithmetic::fused_multiply_add::mul_add2_sel;
 use arithmetic::ln::ln;

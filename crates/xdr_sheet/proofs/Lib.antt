@@ -1,3 +1,3 @@
-mod Filling
+mod Fill
 mod Patterns
-mod Texts
+mod Lines

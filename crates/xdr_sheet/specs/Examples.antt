@@ -4,13 +4,13 @@ use Prim.Native.Nat.{ℕ}
 use mathlib.Core.List.{List, [], _∷_, _++_}
 use lib.Ieee.{add, sub, mul, div, lt, le, eq, isNan, ofBits, toBits}
 use Rattle.arithmetic.specs.Sqrt.{sqrt}
-use Rattle.explicit_black.specs.Quote.{volatility, firstRefusal, valued, priced, inputOutcome, impliedBlackVolatilityInput}
+use Rattle.explicit_black.specs.Quote.{volatility, firstRefusal, fromTimeValue, fromPrice, fromQuote, impliedBlackVolatilityInput}
 use Rattle.xdr_sheet.specs.Text.{ascii}
 use Rattle.xdr_sheet.specs.Sheet.{text}
 
 -- the doubles of the sample
-abbrev nought : List ℕ
-nought = 0x00 ∷ 0x00 ∷ 0x00 ∷ 0x00 ∷ 0x00 ∷ 0x00 ∷ 0x00 ∷ 0x00 ∷ []
+abbrev plusZero : List ℕ
+plusZero = 0x00 ∷ 0x00 ∷ 0x00 ∷ 0x00 ∷ 0x00 ∷ 0x00 ∷ 0x00 ∷ 0x00 ∷ []
 
 abbrev one : List ℕ
 one = 0x3F ∷ 0xF0 ∷ 0x00 ∷ 0x00 ∷ 0x00 ∷ 0x00 ∷ 0x00 ∷ 0x00 ∷ []
@@ -32,12 +32,12 @@ word n = 0x00 ∷ 0x00 ∷ 0x00 ∷ n ∷ []
 abbrev pub sample : List ℕ
 sample =
     word 3
-    ++ word 0 ++ nought ++ hundred ++ hundredTwenty ++ one
+    ++ word 0 ++ plusZero ++ hundred ++ hundredTwenty ++ one
     ++ word 0 ++ hundred ++ hundred ++ hundredTwenty ++ one
     ++ word 1 ++ five ++ hundred ++ hundredTwenty ++ one
 
 pub text-of-sample : text sample ≡ ascii "1 V 0000000000000000 0000000000000000 0\n2 V 7ff0000000000000 7ff0000000000000 0\n3 R 7 0\nT 2 1\n"
-unfolding text impliedBlackVolatilityInput inputOutcome firstRefusal priced valued volatility sqrt add sub mul div lt le eq isNan ofBits toBits
+unfolding text impliedBlackVolatilityInput fromQuote firstRefusal fromPrice fromTimeValue volatility sqrt add sub mul div lt le eq isNan ofBits toBits
 text-of-sample = refl
 
 -- no quotes

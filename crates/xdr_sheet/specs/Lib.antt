@@ -3,9 +3,7 @@ pub mod Tally
 pub mod Text
 pub mod Sheet
 pub mod Replies
-pub mod Lines
 pub mod Printing
+pub mod Internal
+pub mod Laws
 pub mod Examples
-pub mod LawsSheet
-pub mod LawsLines
-pub mod LawsPrinting

@@ -8,7 +8,7 @@ use Rattle.explicit_black.specs.Quote.{Reply}
 use Rattle.xdr_sheet.specs.Tally.{emptyTally, tallied, counted}
 use Rattle.xdr_sheet.specs.Text.{lineBytes, line, letter, closing, refusedSheet}
 use Rattle.xdr_sheet.specs.Sheet.{Size, quotes, refused, size, replyAt, Quoted, quoted, noQuote, quotedAt}
-use Rattle.xdr_sheet.specs.Lines.{written, fitsInto, overlaid}
+use Rattle.xdr_sheet.specs.Internal.Lines.{written, fitsInto, overlaid}
 use Rattle.xdr_sheet.specs.declared.tally.Tally.{Tally}
 use Rattle.xdr_sheet.specs.declared.printing.Progress.{Progress}
 use Rattle.xdr_sheet.specs.declared.printing.Progress.the-variants.{Tallied, Over}
@@ -49,8 +49,8 @@ unfolding size quotedAt line closing refusedSheet
 step s t = stepOf s t (size s)
 
 -- what the code hands back of a line
-abbrev pub printed : Printed → Step
-printed r = record { text = written (r .line); letter = r .letter; next = r .next }
+abbrev pub viewPrinted : Printed → Step
+viewPrinted r = record { text = written (r .line); letter = r .letter; next = r .next }
 
 -- ---- all lines that are still to come: of m quotes and the last, or of a refused sheet
 unfoldable pub upcoming : List ℕ → Tally → ℕ → List Step
@@ -112,5 +112,5 @@ abbrev pub filling : List ℕ → Part → Filling
 filling buffer q = record { count = length (q .text); next = q .next; buffer = overlaid (q .text) buffer }
 
 -- what the code hands back of it
-abbrev pub filled : Filled → List ℕ → Filling
-filled r buffer = record { count = r .count; next = r .next; buffer = buffer }
+abbrev pub viewFilled : Filled → List ℕ → Filling
+viewFilled r buffer = record { count = r .count; next = r .next; buffer = buffer }

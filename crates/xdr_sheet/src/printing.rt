@@ -2,11 +2,11 @@
 ghost use mathlib.Core.Path.{_≡_};
 ghost use Prim.Native.Nat.{_<_};
 ghost use lib.ListN.{length};
-ghost use Rattle.explicit_black.specs.Replies.{replied};
+ghost use Rattle.explicit_black.specs.Replies.{viewReply};
 ghost use Rattle.xdr_sheet.specs.Sheet.{maxQuotes};
 ghost use Rattle.xdr_sheet.specs.Tally.{counted};
 ghost use Rattle.xdr_sheet.specs.Text.{letter};
-ghost use Rattle.xdr_sheet.specs.Printing.{start, quoteStep, step, printed, part, filling, filled};
+ghost use Rattle.xdr_sheet.specs.Printing.{start, quoteStep, step, viewPrinted, part, filling, viewFilled};
 use crate::sheet::Asked;
 use crate::sheet::Size;
 use crate::sheet::quotes_in;
@@ -47,7 +47,7 @@ pub fn start() -> Progress
 }
 
 fn letter(reply: Reply) -> u8
-    ensures { λ r. ⌜ r ≡ letter (replied reply) ⌝ }
+    ensures { λ r. ⌜ r ≡ letter (viewReply reply) ⌝ }
 {
     match reply {
         Reply::Answer {
@@ -65,7 +65,7 @@ fn letter(reply: Reply) -> u8
 // The line of a quote after those tallied.
 fn quote_line(tally: Tally, reply: Reply) -> Printed
     requires { ⌜ counted tally < maxQuotes ⌝ }
-    ensures { λ r. ⌜ printed r ≡ quoteStep tally (replied reply) ⌝ }
+    ensures { λ r. ⌜ viewPrinted r ≡ quoteStep tally (viewReply reply) ⌝ }
 {
     let line = reply_line(tally.quotes() + 1, reply);
     let letter = letter(reply);
@@ -79,7 +79,7 @@ fn quote_line(tally: Tally, reply: Reply) -> Printed
 
 // The line that comes after those of the quotes tallied.
 pub fn next_line(sheet: &[u8], tally: Tally) -> Printed
-    ensures { λ r. ⌜ printed r ≡ step (now (sheet .entry)) tally ⌝ }
+    ensures { λ r. ⌜ viewPrinted r ≡ step (now (sheet .entry)) tally ⌝ }
 {
     match quotes_in(sheet) {
         Size::Quotes(_) => match reply(sheet, tally.quotes()) {
@@ -106,7 +106,7 @@ pub fn next_line(sheet: &[u8], tally: Tally) -> Printed
 
 // As many whole next lines as the buffer holds, at its start.
 pub fn fill(sheet: &[u8], progress: Progress, out: &mut [u8]) -> Filled
-    ensures { λ r. ⌜ filled r (now (out .exit)) ≡ filling (now (out .entry)) (part (now (sheet .entry)) progress (length (now (out .entry)))) ⌝ }
+    ensures { λ r. ⌜ viewFilled r (now (out .exit)) ≡ filling (now (out .entry)) (part (now (sheet .entry)) progress (length (now (out .entry)))) ⌝ }
 {
     let mut count: usize = 0;
     let mut next = progress;

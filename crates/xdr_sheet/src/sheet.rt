@@ -3,9 +3,9 @@
 ghost use mathlib.Core.Path.{_≡_};
 ghost use Prim.Native.Nat.{_+_, _≤_};
 ghost use lib.ListN.{length};
-ghost use Rattle.explicit_black.specs.Replies.{replied};
+ghost use Rattle.explicit_black.specs.Replies.{viewReply};
 ghost use Rattle.xdr_sheet.specs.Sheet.{quoteBytes, size, replyFrom, quotedAt};
-ghost use Rattle.xdr_sheet.specs.Replies.{sized, asked};
+ghost use Rattle.xdr_sheet.specs.Replies.{viewSize, viewAsked};
 use crate::xdr::double;
 use crate::xdr::unsigned;
 use explicit_black::quote::Reply;
@@ -48,7 +48,7 @@ pub enum Asked {
 
 // Too short for a count, too many quotes, or not as long as their count says: refused.
 pub fn quotes_in(sheet: &[u8]) -> Size
-    ensures { λ r. ⌜ sized r ≡ size (now (sheet .entry)) ⌝ }
+    ensures { λ r. ⌜ viewSize r ≡ size (now (sheet .entry)) ⌝ }
 {
     if sheet.len() < COUNT_BYTES {
         return NO_SHEET;
@@ -67,7 +67,7 @@ pub fn quotes_in(sheet: &[u8]) -> Size
 // The reply of the quote that starts at `at`.
 fn quote(sheet: &[u8], at: usize) -> Reply
     requires { ⌜ at + quoteBytes ≤ length (now sheet) ⌝ }
-    ensures { λ r. ⌜ replied r ≡ replyFrom (now (sheet .entry)) at ⌝ }
+    ensures { λ r. ⌜ viewReply r ≡ replyFrom (now (sheet .entry)) at ⌝ }
 {
     let side = unsigned(sheet, at);
     let price = double(sheet, at + PRICE);
@@ -79,7 +79,7 @@ fn quote(sheet: &[u8], at: usize) -> Reply
 
 // The reply of the quote with `index` quotes before it. Each quote of a refused sheet is refused as it is.
 pub fn reply(sheet: &[u8], index: u64) -> Asked
-    ensures { λ r. ⌜ asked r ≡ quotedAt (now (sheet .entry)) index ⌝ }
+    ensures { λ r. ⌜ viewAsked r ≡ quotedAt (now (sheet .entry)) index ⌝ }
 {
     match quotes_in(sheet) {
         Size::Quotes(count) => {

@@ -1,7 +1,7 @@
 // How many quotes are answered and how many refused.
 ghost use mathlib.Core.Path.{_≡_};
 ghost use Prim.Native.Nat.{_<_};
-ghost use Rattle.explicit_black.specs.Replies.{replied};
+ghost use Rattle.explicit_black.specs.Replies.{viewReply};
 ghost use Rattle.xdr_sheet.specs.Sheet.{maxQuotes};
 ghost use Rattle.xdr_sheet.specs.Tally.{emptyTally, tallied, counted};
 use explicit_black::quote::Reply;
@@ -31,7 +31,7 @@ impl Tally {
     // One quote more.
     pub(crate) fn with(self, reply: Reply) -> Tally
         requires { ⌜ counted self < maxQuotes ⌝ }
-        ensures { λ r. ⌜ r ≡ tallied self (replied reply) ⌝ }
+        ensures { λ r. ⌜ r ≡ tallied self (viewReply reply) ⌝ }
     {
         match reply {
             Reply::Answer {

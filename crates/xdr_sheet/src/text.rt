@@ -4,10 +4,10 @@ ghost use mathlib.Core.List.{_∷_, [], _++_};
 ghost use Prim.Native.Nat.{_+_, _≤_, _<_};
 ghost use lib.ListN.{length, take, drop};
 ghost use lib.Ieee.{binary64, toBits};
-ghost use Rattle.explicit_black.specs.Replies.{replied};
+ghost use Rattle.explicit_black.specs.Replies.{viewReply};
 ghost use Rattle.xdr_sheet.specs.Text.{lineBytes, decimalDigits, hexadecimalDigits};
 ghost use Rattle.xdr_sheet.specs.Text.{decimal, hexadecimal, answerFields, refusalFields, line, closing, refusedSheet};
-ghost use Rattle.xdr_sheet.specs.Lines.{written, Extended, placed, placing};
+ghost use Rattle.xdr_sheet.specs.Internal.Lines.{written, Extended, placed, placing};
 use crate::tally::Tally;
 use explicit_black::quote::Reply;
 
@@ -133,7 +133,7 @@ fn pattern(x: f64) -> u64
 
 // The line of a reply with the quote's number.
 pub fn reply_line(number: u64, reply: Reply) -> Line
-    ensures { λ r. ⌜ written r ≡ line number (replied reply) ⌝ }
+    ensures { λ r. ⌜ written r ≡ line number (viewReply reply) ⌝ }
 {
     let start = Line::empty().decimal(number);
     match reply {

@@ -14,14 +14,14 @@ use lib.Ieee.Nearest.{closest, closest-mono}
 use lib.Ieee.Order.{transfer, drop, round-mono}
 use lib.Ieee.Scale.{grid, overflow, finite}
 use lib.Ieee.Positive.{num, den, den-pos}
-use Rattle.arithmetic.specs.Basic.{minus?}
+use Rattle.arithmetic.specs.Basic.{isSignMinus}
 use Rattle.arithmetic.specs.Laws.Times.{cross, has-sign, has-finite}
 use Rattle.arithmetic.specs.Laws.Rounding.{round-value}
-use Rattle.arithmetic.specs.Laws.Own.{round-own, grid-under}
+use Rattle.arithmetic.specs.Laws.Representable.{round-representable, grid-under}
 use Rattle.arithmetic.specs.Laws.Identities.{round-neg}
 
 -- ---- at most a value of the format
-pub le-cross : (x y : Float) → T (finite x) → T (finite y) → minus? x ≡ false → minus? y ≡ false → T (le x y) → num x * den y ≤ num y * den x
+pub le-cross : (x y : Float) → T (finite x) → T (finite y) → isSignMinus x ≡ false → isSignMinus y ≡ false → T (le x y) → num x * den y ≤ num y * den x
 unfolding le
 le-cross nan y p q s t h = absurd p
 le-cross (inf u) y p q s t h = absurd p
@@ -41,7 +41,7 @@ le-cross (fin false m e) (fin false n d) p q s t h =
 -- r has the sign s, and is v at most in size
 pub record AtMost (s : Bool) (v r : Float) : Type 0 where
   pub is-finite : T (finite r)
-  pub sign : minus? r ≡ s
+  pub sign : isSignMinus r ≡ s
   pub bound : num r * den v ≤ num v * den r
 
 pub round-at-most : (f : Format) (s : Bool) (a c : ℕ) (v : Float) → 0 < c → T (fits f v) → T (finite v) → a * den v ≤ num v * c → AtMost s v (round f s a c)
@@ -54,7 +54,7 @@ round-at-most f s a c v C F p h =
     let z = round f false (num v) (den v) in
     let R : HasValue r s g l = round-value f s a c under in
     let R0 : HasValue r0 false g l = round-value f false a c under in
-    let Z : HasValue z false (num v) (den v) = round-own f false v F p in
+    let Z : HasValue z false (num v) (den v) = round-representable f false v F p in
     let order : num r0 * den z ≤ num z * den r0 =
     le-cross r0 z (has-finite r0 false g l R0) (has-finite z false (num v) (den v) Z) (has-sign r0 false g l R0) (has-sign z false (num v) (den v) Z) (round-mono f a c (num v) (den v) C (den-pos v) h) in
     let whole : g * den v ≤ num v * l = transfer g (num v) l (den v) (num r0) (num z) (den r0) (den z) (den-pos r0) (den-pos z) (sym (cross r0 false g l R0)) (sym (cross z false (num v) (den v) Z)) order in

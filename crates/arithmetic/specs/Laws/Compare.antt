@@ -10,7 +10,7 @@ use lib.Ieee.Compare.{nan-differs}
 use lib.Ieee.Scale.{finite}
 use lib.Ieee.Positive.{num, den, den-pos}
 use Rattle.arithmetic.specs.Laws.Ratio.{ltb-ratio, eqb-ratio, zero-ratio, add-ratio}
-use Rattle.arithmetic.specs.Basic.{minus?}
+use Rattle.arithmetic.specs.Basic.{isSignMinus}
 use Rattle.arithmetic.specs.Laws.Times.{Times}
 
 -- ---- two values x and y, and 2 ^ k times each, over common denominators: in the proportion of den x * den y to 2 ^ k * (den x' * den y')
@@ -28,7 +28,7 @@ right-ratio k x y x' y' h =
     ap (λ (z : ℕ). num y' * den x' * z) (mul-comm (den x) (den y)) ∙ left-ratio k y x y' x' h ∙ ap (λ (z : ℕ). num y * den x * (2 ^ k * z)) (mul-comm (den y') (den x'))
 
 -- ---- the comparisons, by sign and fraction
-pub lt-is : (x y : Float) → T (finite x) → T (finite y) → lt x y ≡ below (minus? x) (num x * den y) (minus? y) (num y * den x)
+pub lt-is : (x y : Float) → T (finite x) → T (finite y) → lt x y ≡ below (isSignMinus x) (num x * den y) (isSignMinus y) (num y * den x)
 unfolding lt
 lt-is nan y p q = absurd p
 lt-is (inf s) y p q = absurd p
@@ -36,7 +36,7 @@ lt-is (fin s m e) nan p q = absurd q
 lt-is (fin s m e) (inf t) p q = absurd q
 lt-is (fin s m e) (fin t n d) p q = refl
 
-pub eq-is : (x y : Float) → T (finite x) → T (finite y) → eq x y ≡ level (minus? x) (num x * den y) (minus? y) (num y * den x)
+pub eq-is : (x y : Float) → T (finite x) → T (finite y) → eq x y ≡ level (isSignMinus x) (num x * den y) (isSignMinus y) (num y * den x)
 unfolding eq
 eq-is nan y p q = absurd p
 eq-is (inf s) y p q = absurd p
@@ -64,12 +64,12 @@ module _ (k : ℕ) (x y x' y' : Float) (h : Times k x x') (g : Times k y y') whe
   pub lt-times : lt x' y' ≡ lt x y
   lt-times =
       rw (lt-is x' y' (h .finite-r) (g .finite-r), lt-is x y (h .finite-l) (g .finite-l), h .sign, g .sign)
-      (below-ratio (den x * den y) (2 ^ k * (den x' * den y')) D D' (minus? x) (minus? y) (num x * den y) (num y * den x) (num x' * den y') (num y' * den x') (left-ratio k x y x' y' h) (right-ratio k x y x' y' g))
+      (below-ratio (den x * den y) (2 ^ k * (den x' * den y')) D D' (isSignMinus x) (isSignMinus y) (num x * den y) (num y * den x) (num x' * den y') (num y' * den x') (left-ratio k x y x' y' h) (right-ratio k x y x' y' g))
 
   pub eq-times : eq x' y' ≡ eq x y
   eq-times =
       rw (eq-is x' y' (h .finite-r) (g .finite-r), eq-is x y (h .finite-l) (g .finite-l), h .sign, g .sign)
-      (level-ratio (den x * den y) (2 ^ k * (den x' * den y')) D D' (minus? x) (minus? y) (num x * den y) (num y * den x) (num x' * den y') (num y' * den x') (left-ratio k x y x' y' h) (right-ratio k x y x' y' g))
+      (level-ratio (den x * den y) (2 ^ k * (den x' * den y')) D D' (isSignMinus x) (isSignMinus y) (num x * den y) (num y * den x) (num x' * den y') (num y' * den x') (left-ratio k x y x' y' h) (right-ratio k x y x' y' g))
 
   pub le-times : le x' y' ≡ le x y
   unfolding le

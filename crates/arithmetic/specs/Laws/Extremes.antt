@@ -8,24 +8,24 @@ use lib.Dec.{T, ltb, ltb→lt, nltb→le}
 use lib.Ieee.{Float, lt, ofBits}
 use lib.Ieee.Scale.{finite}
 use lib.Ieee.Positive.{num, den, den-pos}
-use Rattle.arithmetic.specs.Operations.{nought}
-use Rattle.arithmetic.specs.Basic.{minus?, takes, over, max, min}
+use Rattle.arithmetic.specs.Operations.{plusZero}
+use Rattle.arithmetic.specs.Basic.{isSignMinus, takesFirstBy, takesFirst, max, min}
 use Rattle.arithmetic.specs.Laws.Ratio.{scaled-cross}
 use Rattle.arithmetic.specs.Laws.Times.{Times}
 use Rattle.arithmetic.specs.Laws.Compare.{lt-times, lt-is, finite-no-nan}
 
-pub times-zero : (k : ℕ) → Times k nought nought
+pub times-zero : (k : ℕ) → Times k plusZero plusZero
 unfolding ofBits
 times-zero k = record { finite-l = tt; finite-r = tt; sign = refl; value = sym (mul-one (0 * 2 ^ k) ∙ zero-mul (2 ^ k)) }
 
 pub times-refl : (x : Float) → T (finite x) → Times 0 x x
 times-refl x p = record { finite-l = p; finite-r = p; sign = refl; value = ap (λ (z : ℕ). z * den x) (sym (mul-one (num x))) }
 
-pub max-is : (x y : Float) → T (finite x) → T (finite y) → max x y ≡ cond (over x y) x y
+pub max-is : (x y : Float) → T (finite x) → T (finite y) → max x y ≡ cond (takesFirst x y) x y
 unfolding max
 max-is x y p q = rw (finite-no-nan x p, finite-no-nan y q)
 
-pub min-is : (x y : Float) → T (finite x) → T (finite y) → min x y ≡ cond (over x y) y x
+pub min-is : (x y : Float) → T (finite x) → T (finite y) → min x y ≡ cond (takesFirst x y) y x
 unfolding min
 min-is x y p q = rw (finite-no-nan x p, finite-no-nan y q)
 
@@ -33,21 +33,21 @@ cond-times : (k : ℕ) (b : Bool) (x y x' y' : Float) → Times k x x' → Times
 cond-times k true x y x' y' h g = h
 cond-times k false x y x' y' h g = g
 
-over-times : (k : ℕ) (x y x' y' : Float) → Times k x x' → Times k y y' → over x' y' ≡ over x y
-over-times k x y x' y' h g = rw (lt-times k x y x' y' h g, lt-times k y x y' x' g h, h .sign)
+takesFirst-times : (k : ℕ) (x y x' y' : Float) → Times k x x' → Times k y y' → takesFirst x' y' ≡ takesFirst x y
+takesFirst-times k x y x' y' h g = rw (lt-times k x y x' y' h g, lt-times k y x y' x' g h, h .sign)
 
 pub max-times : (k : ℕ) (x y x' y' : Float) → Times k x x' → Times k y y' → Times k (max x y) (max x' y')
-max-times k x y x' y' h g = rw (max-is x y (h .finite-l) (g .finite-l), max-is x' y' (h .finite-r) (g .finite-r), over-times k x y x' y' h g) (cond-times k (over x y) x y x' y' h g)
+max-times k x y x' y' h g = rw (max-is x y (h .finite-l) (g .finite-l), max-is x' y' (h .finite-r) (g .finite-r), takesFirst-times k x y x' y' h g) (cond-times k (takesFirst x y) x y x' y' h g)
 
 pub min-times : (k : ℕ) (x y x' y' : Float) → Times k x x' → Times k y y' → Times k (min x y) (min x' y')
-min-times k x y x' y' h g = rw (min-is x y (h .finite-l) (g .finite-l), min-is x' y' (h .finite-r) (g .finite-r), over-times k x y x' y' h g) (cond-times k (over x y) y x y' x' g h)
+min-times k x y x' y' h g = rw (min-is x y (h .finite-l) (g .finite-l), min-is x' y' (h .finite-r) (g .finite-r), takesFirst-times k x y x' y' h g) (cond-times k (takesFirst x y) y x y' x' g h)
 
 -- ---- exchanged: of two values that are not negative the larger is the same number, whichever comes first
-lt-plus : (x y : Float) → T (finite x) → T (finite y) → minus? x ≡ false → minus? y ≡ false → lt x y ≡ ltb (num x * den y) (num y * den x)
+lt-plus : (x y : Float) → T (finite x) → T (finite y) → isSignMinus x ≡ false → isSignMinus y ≡ false → lt x y ≡ ltb (num x * den y) (num y * den x)
 lt-plus x y p q s t = lt-is x y p q ∙ rw (s, t)
 
 -- x and y are the same number
-times-level : (k : ℕ) (x y y' : Float) → T (finite x) → minus? x ≡ false → minus? y ≡ false → num x * den y ≡ num y * den x → Times k y y' → Times k x y'
+times-level : (k : ℕ) (x y y' : Float) → T (finite x) → isSignMinus x ≡ false → isSignMinus y ≡ false → num x * den y ≡ num y * den x → Times k y y' → Times k x y'
 times-level k x y y' p s t e g = record {
   finite-l = p;
   finite-r = g .finite-r;
@@ -56,18 +56,18 @@ times-level k x y y' p s t e g = record {
 }
 
 exchange : (k : ℕ) (x y x' y' : Float) → Times k x x' → Times k y y' → (a b : Bool) → (T a → T b → ⊥) → (T (not a) → T (not b) → Times k x y' × Times k y x')
-    → Times k (cond (takes a b false) x y) (cond (takes b a false) y' x') × Times k (cond (takes a b false) y x) (cond (takes b a false) x' y')
+    → Times k (cond (takesFirstBy a b false) x y) (cond (takesFirstBy b a false) y' x') × Times k (cond (takesFirstBy a b false) y x) (cond (takesFirstBy b a false) x' y')
 exchange k x y x' y' h g true true n e = absurd (n tt tt)
 exchange k x y x' y' h g true false n e = (g, h)
 exchange k x y x' y' h g false true n e = (h, g)
 exchange k x y x' y' h g false false n e = e tt tt
 
-pub swapped-times : (k : ℕ) (x y x' y' : Float) → minus? x ≡ false → minus? y ≡ false → Times k x x' → Times k y y' → Times k (max x y) (max y' x') × Times k (min x y) (min y' x')
+pub swapped-times : (k : ℕ) (x y x' y' : Float) → isSignMinus x ≡ false → isSignMinus y ≡ false → Times k x x' → Times k y y' → Times k (max x y) (max y' x') × Times k (min x y) (min y' x')
 swapped-times k x y x' y' s t h g =
     let p = h .finite-l in
     let q = g .finite-l in
-    let o : over x y ≡ takes (lt x y) (lt y x) false = ap (λ (b : Bool). takes (lt x y) (lt y x) b) s in
-    let o' : over y' x' ≡ takes (lt y x) (lt x y) false = rw (lt-times k y x y' x' g h, lt-times k x y x' y' h g, g .sign, t) in
+    let o : takesFirst x y ≡ takesFirstBy (lt x y) (lt y x) false = ap (λ (b : Bool). takesFirstBy (lt x y) (lt y x) b) s in
+    let o' : takesFirst y' x' ≡ takesFirstBy (lt y x) (lt x y) false = rw (lt-times k y x y' x' g h, lt-times k x y x' y' h g, g .sign, t) in
     let a = num x * den y in
     let b = num y * den x in
     let l : lt x y ≡ ltb a b = lt-plus x y p q s t in

@@ -17,14 +17,14 @@ use lib.Ieee.Bits.{ofBits-fits, ofBits-toBits, toBits-ofBits, nanBits-is, nanBit
 use lib.Ieee.Exact.{HasValue, odd-sign, round-exact}
 use lib.Ieee.Scale.{finite, round-same}
 use lib.Ieee.Positive.{num, den, den-pos, positive, positive-finite, positive-of-value, value→cross, mul-at}
-use Rattle.arithmetic.specs.Basic.{minus?}
+use Rattle.arithmetic.specs.Basic.{isSignMinus}
 use Rattle.arithmetic.specs.Operations.{_⊗_, bits}
-use Rattle.arithmetic.specs.Ln.{inUnits, place, mantissa, exponent}
+use Rattle.arithmetic.specs.Ln.{inUnits, place, significand, exponent}
 use Rattle.arithmetic.specs.Laws.Numbers.{false-not, lt-or-le, pow-split, size-is}
 use Rattle.arithmetic.specs.Laws.Ratio.{ltb-ratio}
 use Rattle.arithmetic.specs.Laws.Times.{has-sign, positive-sign}
 use Rattle.arithmetic.specs.Laws.Patterns.{ofBits-is, read-zero, read-more, finite-field, subnormal, normal, built}
-use Rattle.arithmetic.specs.Laws.Own.{round-self}
+use Rattle.arithmetic.specs.Laws.Representable.{round-self}
 
 -- ---- a units, a being q * 2 ^ d / 2 ^ 52 for a q of 53 digits
 module _ (a q d : ℕ) (is : a * 2 ^ 52 ≡ q * 2 ^ d) (lo : 2 ^ 52 ≤ q) (hi : q < 2 ^ 53) where
@@ -82,8 +82,8 @@ module _ (a q d : ℕ) (is : a * 2 ^ 52 ≡ q * 2 ^ d) (lo : 2 ^ 52 ≤ q) (hi :
       let far : 53 + c .e ≤ 2098 = omega (arith, c .small) in
       round-exact binary64 false a (2 ^ place a) q (c .e) (pow-pos (place a)) hi (lt-of-lt-of-le (shl-lt 53 (c .e) hi) (pow-mono far)) (scaled-at (c .e) (place a) (c .exact))
 
-  mantissa-at : ofBits binary64 ((d * 4503599627370496 + q - 0x6a09e00000000) % 4503599627370496 + 0x3fe6a09e00000000) ≡ round binary64 false a (2 ^ place a)
-  mantissa-at =
+  significand-at : ofBits binary64 ((d * 4503599627370496 + q - 0x6a09e00000000) % 4503599627370496 + 0x3fe6a09e00000000) ≡ round binary64 false a (2 ^ place a)
+  significand-at =
       let c = chosen in
       let v = odd 53 false q (c .e) 1074 in
       let b = built (c .e) q (omega (arith, c .small)) lo hi in
@@ -97,25 +97,25 @@ inUnits-is : (x : Float) (a : ℕ) → HasValue x false a (2 ^ 1074) → inUnits
 inUnits-is x a v = ap (λ (y : ℕ). y / den x) (value→cross x a (2 ^ 1074) v) ∙ mul-div-cancel a (den-pos x)
 
 -- m and k by the bits b of x, the exponent's field being counted from 52 on; and m is exact
-pub record SplitBy (x : Float) (b : ℕ) : Type 0 where
-  pub m-is : ofBits binary64 ((b - 0x6a09e00000000) % 4503599627370496 + 0x3fe6a09e00000000) ≡ mantissa x
+pub record DecomposedBy (x : Float) (b : ℕ) : Type 0 where
+  pub m-is : ofBits binary64 ((b - 0x6a09e00000000) % 4503599627370496 + 0x3fe6a09e00000000) ≡ significand x
   pub k-is : ofInt binary64 (minus ((b - 0x6a09e00000000) / 4503599627370496) 1074) ≡ exponent x
   pub whole : num x * 2 ^ 1074 ≡ inUnits x * den x
-  pub exact : HasValue (mantissa x) false (inUnits x) (2 ^ place (inUnits x))
+  pub exact : HasValue (significand x) false (inUnits x) (2 ^ place (inUnits x))
 
-split-at : (x : Float) (a q d : ℕ) → HasValue x false a (2 ^ 1074) → a * 2 ^ 52 ≡ q * 2 ^ d → 2 ^ 52 ≤ q → q < 2 ^ 53 → SplitBy x (d * 4503599627370496 + q)
-unfolding mantissa exponent
-split-at x a q d v is lo hi =
+decomposed-at : (x : Float) (a q d : ℕ) → HasValue x false a (2 ^ 1074) → a * 2 ^ 52 ≡ q * 2 ^ d → 2 ^ 52 ≤ q → q < 2 ^ 53 → DecomposedBy x (d * 4503599627370496 + q)
+unfolding significand exponent
+decomposed-at x a q d v is lo hi =
     let e = sym (inUnits-is x a v) in
     record {
-      m-is = mantissa-at a q d is lo hi ∙ ap (λ (y : ℕ). round binary64 false y (2 ^ place y)) e;
+      m-is = significand-at a q d is lo hi ∙ ap (λ (y : ℕ). round binary64 false y (2 ^ place y)) e;
       k-is = ap (λ (y : ℕ). ofInt binary64 (minus y 1074)) (sym (chosen a q d is lo hi .place-is) ∙ ap place e);
       whole = value→cross x a (2 ^ 1074) v ∙ ap (λ (y : ℕ). y * den x) e;
       exact = subst (λ (y : ℕ). HasValue (round binary64 false y (2 ^ place y)) false y (2 ^ place y)) e (exact-at a q d is lo hi);
     }
 
 -- ---- its bits
-sign-is : (s : Bool) (g t : ℕ) → g < 2048 → T (finite (ofFields binary64 s g t)) → minus? (ofFields binary64 s g t) ≡ s
+sign-is : (s : Bool) (g t : ℕ) → g < 2048 → T (finite (ofFields binary64 s g t)) → isSignMinus (ofFields binary64 s g t) ≡ s
 sign-is s zero t G h = has-sign (ofFields binary64 s 0 t) s (t * 2 ^ 0) (2 ^ 1074) (read-zero s t)
 sign-is s (suc g) t G h = has-sign (ofFields binary64 s (suc g) t) s ((4503599627370496 + t) * 2 ^ g) (2 ^ 1074) (read-more s g t (omega (arith, finite-field s (suc g) t h)))
 
@@ -131,7 +131,7 @@ positive-bits x p f =
     let t = b % 4503599627370496 in
     let is : x ≡ ofFields binary64 s g t = sym (ofBits-toBits binary64 x f) ∙ ofBits-is b in
     let fine : T (finite (ofFields binary64 s g t)) = subst (λ (y : Float). T (finite y)) is (positive-finite x p) in
-    let plus : b < 9223372036854775808 = leb-false 9223372036854775808 b (sym (sign-is s g t (omega arith) fine) ∙ ap minus? (sym is) ∙ positive-sign x p) in
+    let plus : b < 9223372036854775808 = leb-false 9223372036854775808 b (sym (sign-is s g t (omega arith) fine) ∙ ap isSignMinus (sym is) ∙ positive-sign x p) in
     let some : b ≡ 0 → ⊥ = λ e. zero-not (subst (λ (y : Float). T (positive y)) (sym (ofBits-toBits binary64 x f) ∙ ap (ofBits binary64) e) p) in
     let part : g ≡ 2047 → ⊥ = finite-field s g t fine in
     (omega arith, omega arith)
@@ -158,13 +158,13 @@ module _ (x : Float) (p : T (positive x)) (f : T (fits binary64 x)) where
   abbrev b : ℕ
   b = toBits binary64 x
 
-  pub split-normal : 4503599627370496 ≤ b → SplitBy x (b + 0x340000000000000)
-  split-normal lo =
+  pub decomposed-normal : 4503599627370496 ≤ b → DecomposedBy x (b + 0x340000000000000)
+  decomposed-normal lo =
       let q = 4503599627370496 + b % 4503599627370496 in
       let j = b / 4503599627370496 - 1 in
       let together : (j + 52) * 4503599627370496 + q ≡ b + 0x340000000000000 = omega arith in
-      subst (SplitBy x) together
-      (split-at x (q * 2 ^ j) q (j + 52) (read-normal x b (ofBits-toBits binary64 x f) lo (positive-bits x p f .1)) (mul-assoc q (2 ^ j) (2 ^ 52) ∙ ap (λ (y : ℕ). q * y) (sym (pow-add 2 j 52))) (omega arith) (omega arith))
+      subst (DecomposedBy x) together
+      (decomposed-at x (q * 2 ^ j) q (j + 52) (read-normal x b (ofBits-toBits binary64 x f) lo (positive-bits x p f .1)) (mul-assoc q (2 ^ j) (2 ^ 52) ∙ ap (λ (y : ℕ). q * y) (sym (pow-add 2 j 52))) (omega arith) (omega arith))
 
   module _ (low : b < 4503599627370496) where
     value : HasValue x false b (2 ^ 1074)
@@ -179,7 +179,7 @@ module _ (x : Float) (p : T (positive x)) (f : T (fits binary64 x)) where
     pub raised-positive : T (positive (raised x))
     raised-positive = positive-of-value (raised x) (b * 2 ^ 52) (2 ^ 1074) raised-value (mul-pos (positive-bits x p f .0) (pow-pos 52))
 
-    pub split-subnormal : SplitBy x (toBits binary64 (raised x)) × (4503599627370496 ≤ toBits binary64 (raised x))
+    pub split-subnormal : DecomposedBy x (toBits binary64 (raised x)) × (4503599627370496 ≤ toBits binary64 (raised x))
     split-subnormal =
         let F = mul-fits binary64 x (bits 0x4330000000000000) in
         go (toBits binary64 (raised x)) (ofBits-toBits binary64 (raised x) F) (positive-bits (raised x) raised-positive F .1) (lt-or-le (toBits binary64 (raised x)) 4503599627370496)
@@ -187,24 +187,24 @@ module _ (x : Float) (p : T (positive x)) (f : T (fits binary64 x)) where
         same : (a : ℕ) → HasValue (raised x) false a (2 ^ 1074) → b * 2 ^ 52 ≡ a
         same a v = sym (inUnits-is (raised x) (b * 2 ^ 52) raised-value) ∙ inUnits-is (raised x) a v
 
-        go : (c : ℕ) → ofBits binary64 c ≡ raised x → c < 9218868437227405312 → (c < 4503599627370496) ⊎ (4503599627370496 ≤ c) → SplitBy x c × (4503599627370496 ≤ c)
+        go : (c : ℕ) → ofBits binary64 c ≡ raised x → c < 9218868437227405312 → (c < 4503599627370496) ⊎ (4503599627370496 ≤ c) → DecomposedBy x c × (4503599627370496 ≤ c)
         go c Y hi (inl h) = absurd (omega (arith, positive-bits x p f .0, same c (read-low (raised x) c Y h)))
         go c Y hi (inr h) =
             let q = 4503599627370496 + c % 4503599627370496 in
             let j = c / 4503599627370496 - 1 in
             let together : j * 4503599627370496 + q ≡ c = omega arith in
-            (subst (SplitBy x) together (split-at x b q j value (same (q * 2 ^ j) (read-normal (raised x) c Y h hi)) (omega arith) (omega arith)), h)
+            (subst (DecomposedBy x) together (decomposed-at x b q j value (same (q * 2 ^ j) (read-normal (raised x) c Y h hi)) (omega arith) (omega arith)), h)
 
 -- ---- document 01's m and k: x = m * 2 ^ k, and the bits of m are in their range
-pub record Parted (x : Float) : Type 0 where
+pub record Decomposition (x : Float) : Type 0 where
   pub k : ℤ
   pub k-is : exponent x ≡ ofInt binary64 k
-  pub value : num x * (den (mantissa x) * down k) ≡ num (mantissa x) * up k * den x
-  pub least : 0x3fe6a09e00000000 ≤ toBits binary64 (mantissa x)
-  pub under : toBits binary64 (mantissa x) < 0x3ff6a09e00000000
+  pub value : num x * (den (significand x) * down k) ≡ num (significand x) * up k * den x
+  pub least : 0x3fe6a09e00000000 ≤ toBits binary64 (significand x)
+  pub under : toBits binary64 (significand x) < 0x3ff6a09e00000000
 
-split-any : (x : Float) → T (positive x) → T (fits binary64 x) → (b : ℕ) × SplitBy x b
-split-any x p f = elim (lt-or-le (toBits binary64 x) 4503599627370496) [ inl h ↦ (_, split-subnormal x p f h .0) | inr h ↦ (_, split-normal x p f h) ]
+decomposed-any : (x : Float) → T (positive x) → T (fits binary64 x) → (b : ℕ) × DecomposedBy x b
+decomposed-any x p f = elim (lt-or-le (toBits binary64 x) 4503599627370496) [ inl h ↦ (_, split-subnormal x p f h .0) | inr h ↦ (_, decomposed-normal x p f h) ]
 
 -- from nx / dx = a / E, nm / dm = a / P and U / D = P / E
 same-value : (nx dx nm dm a P E U D : ℕ) → 0 < P → 0 < E → nx * E ≡ a * dx → nm * P ≡ a * dm → U * E ≡ P * D → nx * (dm * D) ≡ nm * U * dx
@@ -220,19 +220,19 @@ same-value nx dx nm dm a P E U D hP hE x m k =
 pub low-no-nan : (b : ℕ) → b < 9218868437227405312 → T (not (nanBits binary64 b))
 low-no-nan b h = false-not (nanBits binary64 b) (nanBits-above binary64 b ∙ le-ltb 9218868437227405312 (b % 9223372036854775808) (omega arith))
 
-pub parted : (x : Float) → T (positive x) → T (fits binary64 x) → Parted x
+pub decomposition : (x : Float) → T (positive x) → T (fits binary64 x) → Decomposition x
 unfolding exponent
-parted x p f =
-    let (c, s) = split-any x p f in
+decomposition x p f =
+    let (c, s) = decomposed-any x p f in
     let a = inUnits x in
     let k = minus (place a) 1074 in
     let b = (c - 0x6a09e00000000) % 4503599627370496 + 0x3fe6a09e00000000 in
-    let e : b ≡ toBits binary64 (mantissa x) = sym (toBits-ofBits binary64 b (omega arith) (subst (λ (y : Bool). T (not y)) (nanBits-is binary64 b) (low-no-nan b (omega arith)))) ∙ ap (toBits binary64) (s .m-is) in
+    let e : b ≡ toBits binary64 (significand x) = sym (toBits-ofBits binary64 b (omega arith) (subst (λ (y : Bool). T (not y)) (nanBits-is binary64 b) (low-no-nan b (omega arith)))) ∙ ap (toBits binary64) (s .m-is) in
     record {
       k = k;
       k-is = refl;
       value =
-          same-value (num x) (den x) (num (mantissa x)) (den (mantissa x)) a (2 ^ place a) (2 ^ 1074) (up k) (down k) (pow-pos (place a)) (pow-pos 1074) (s .whole) (value→cross (mantissa x) a (2 ^ place a) (s .exact))
+          same-value (num x) (den x) (num (significand x)) (den (significand x)) a (2 ^ place a) (2 ^ 1074) (up k) (down k) (pow-pos (place a)) (pow-pos 1074) (s .whole) (value→cross (significand x) a (2 ^ place a) (s .exact))
           (simp one-mul at (minus-val 1 (place a) 1074));
       least = omega arith;
       under = omega arith;

@@ -1,4 +1,4 @@
--- `scaled`, by products: one with 2 ^ k, where 2 ^ k is a value; or one with 2 or with 1 / 2 before it, for the power on either side of those. Assumes nothing.
+-- `scaleB`, by products: one with 2 ^ k, where 2 ^ k is a value; or one with 2 or with 1 / 2 before it, for the power on either side of those. Assumes nothing.
 -- A power is written 2 ^ e / 2 ^ 1075, so that e is a natural number.
 use mathlib.Core.Path.{_≡_, refl, sym, ap, _∙_, subst}
 use Prim.Native.Nat.{ℕ, zero, suc, _+_, _*_, _^_, _≤_, _<_}
@@ -15,30 +15,30 @@ use lib.Ieee.Exact.{HasValue, odd-sign, round-exact}
 use lib.Ieee.Scale.{finite, round-same}
 use lib.Ieee.Positive.{num, den, den-pos, positive, positive-of-value, positive-finite}
 use Rattle.arithmetic.specs.Operations.{_⊗_, half, two}
-use Rattle.arithmetic.specs.Basic.{minus?}
-use Rattle.arithmetic.specs.Exp.{scaled}
+use Rattle.arithmetic.specs.Basic.{isSignMinus}
+use Rattle.arithmetic.specs.Exp.{scaleB}
 use Rattle.arithmetic.specs.Laws.Times.{cross, has-sign, of-cross, rescale}
 use Rattle.arithmetic.specs.Laws.Products.{mul-is}
 use Rattle.arithmetic.specs.Laws.Patterns.{subnormal, built}
-use Rattle.arithmetic.specs.Laws.Own.{own}
+use Rattle.arithmetic.specs.Laws.Representable.{representable}
 use Rattle.arithmetic.specs.Laws.Bounds.{AtMost, round-at-most, round-to-zero, round-to-infinity}
 
--- ---- `scaled` of any fraction that y equals
-scaled-fin : (s : Bool) (m : ℕ) (e : ℤ) (k : ℤ) → scaled (fin s m e) k ≡ round binary64 s (m * up e * up k) (down e * down k)
-unfolding scaled
-scaled-fin s m e k = refl
+-- ---- `scaleB` of any fraction that y equals
+scaleB-fin : (s : Bool) (m : ℕ) (e : ℤ) (k : ℤ) → scaleB (fin s m e) k ≡ round binary64 s (m * up e * up k) (down e * down k)
+unfolding scaleB
+scaleB-fin s m e k = refl
 
 -- a / c times u / d, in two ways
 in-proportion : (n l a c u d p q : ℕ) → n * c ≡ a * l → u * q ≡ p * d → n * u * (c * q) ≡ a * p * (l * d)
 in-proportion n l a c u d p q e g = mul-mul-mul-comm n u c q ∙ ap (λ (z : ℕ). z * (u * q)) e ∙ ap (λ (z : ℕ). a * l * z) g ∙ mul-mul-mul-comm a l p d
 
-pub scaled-at : (y : Float) (s : Bool) (a c e : ℕ) → 0 < c → HasValue y s a c → scaled y (minus e 1075) ≡ round binary64 s (a * 2 ^ e) (c * 2 ^ 1075)
-scaled-at nan s a c e C h = absurd h
-scaled-at (inf t) s a c e C h = absurd h
-scaled-at (fin t m d) s a c e C h =
+pub scaleB-at : (y : Float) (s : Bool) (a c e : ℕ) → 0 < c → HasValue y s a c → scaleB y (minus e 1075) ≡ round binary64 s (a * 2 ^ e) (c * 2 ^ 1075)
+scaleB-at nan s a c e C h = absurd h
+scaleB-at (inf t) s a c e C h = absurd h
+scaleB-at (fin t m d) s a c e C h =
     let k = minus e 1075 in
     let power : up k * 2 ^ 1075 ≡ 2 ^ e * down k = ap (λ (z : ℕ). z * 2 ^ 1075) (sym (one-mul (up k))) ∙ minus-val 1 e 1075 ∙ ap (λ (z : ℕ). z * down k) (one-mul (2 ^ e)) in
-    scaled-fin t m d k
+    scaleB-fin t m d k
     ∙ ap (λ (b : Bool). round binary64 b (m * up d * up k) (down d * down k)) (h .0)
     ∙ round-same binary64 s (m * up d * up k) (down d * down k) (a * 2 ^ e) (c * 2 ^ 1075) (mul-pos (down-pos d) (down-pos k)) (mul-pos C (pow-pos 1075))
     (in-proportion (m * up d) (down d) a c (up k) (down k) (2 ^ e) (2 ^ 1075) (h .1) power)
@@ -57,21 +57,21 @@ times-inf s (fin false zero e) h = absurd h
 times-inf s (fin false (suc m) e) h = ap (λ (b : Bool). cond b nan (inf (unlike s false))) (eqb·suc-zero m) ∙ ap inf (unlike-false s)
 
 -- a finite y times b / d
-pub times-fraction : (y p : Float) (b d : ℕ) → T (finite y) → 0 < b → 0 < d → HasValue p false b d → y ⊗ p ≡ round binary64 (minus? y) (num y * b) (den y * d)
+pub times-fraction : (y p : Float) (b d : ℕ) → T (finite y) → 0 < b → 0 < d → HasValue p false b d → y ⊗ p ≡ round binary64 (isSignMinus y) (num y * b) (den y * d)
 times-fraction y p b d h B D v =
     mul-is binary64 y p h (positive-finite p (positive-of-value p b d v B))
-    ∙ ap (λ (s : Bool). round binary64 (unlike (minus? y) s) (num y * num p) (den y * den p)) (has-sign p false b d v)
-    ∙ ap (λ (s : Bool). round binary64 s (num y * num p) (den y * den p)) (unlike-false (minus? y))
-    ∙ round-same binary64 (minus? y) (num y * num p) (den y * den p) (num y * b) (den y * d) (mul-pos (den-pos y) (den-pos p)) (mul-pos (den-pos y) D)
+    ∙ ap (λ (s : Bool). round binary64 (unlike (isSignMinus y) s) (num y * num p) (den y * den p)) (has-sign p false b d v)
+    ∙ ap (λ (s : Bool). round binary64 s (num y * num p) (den y * den p)) (unlike-false (isSignMinus y))
+    ∙ round-same binary64 (isSignMinus y) (num y * num p) (den y * den p) (num y * b) (den y * d) (mul-pos (den-pos y) (den-pos p)) (mul-pos (den-pos y) D)
     (in-proportion (num y) (den y) (num y) (den y) (num p) (den p) b d refl (cross p false b d v))
 
-pub times-power : (y p : Float) (e : ℕ) → HasValue p false (2 ^ e) (2 ^ 1075) → y ⊗ p ≡ scaled y (minus e 1075)
-unfolding mul scaled
+pub times-power : (y p : Float) (e : ℕ) → HasValue p false (2 ^ e) (2 ^ 1075) → y ⊗ p ≡ scaleB y (minus e 1075)
+unfolding mul scaleB
 times-power nan p e v = refl
 times-power (inf s) p e v = times-inf s p (positive-of-value p (2 ^ e) (2 ^ 1075) v (pow-pos e))
 times-power (fin s m d) p e v =
     times-fraction (fin s m d) p (2 ^ e) (2 ^ 1075) tt (pow-pos e) (pow-pos 1075) v
-    ∙ sym (scaled-at (fin s m d) s (m * up d) (down d) e (down-pos d) (refl, refl))
+    ∙ sym (scaleB-at (fin s m d) s (m * up d) (down d) e (down-pos d) (refl, refl))
 
 -- ---- with 2 or 1 / 2 first, which is exact but at the ends of the range: an infinite double stays infinite, and what a half loses is far below what the result keeps
 two-value : HasValue two false 2 1
@@ -86,9 +86,9 @@ quarter-fits : T (fits binary64 (fin false 1 (negsuc 1)))
 unfolding fits
 quarter-fits = tt
 
-scaled-inf : (s : Bool) (k : ℤ) → scaled (inf s) k ≡ inf s
-unfolding scaled
-scaled-inf s k = refl
+scaleB-inf : (s : Bool) (k : ℤ) → scaleB (inf s) k ≡ inf s
+unfolding scaleB
+scaleB-inf s k = refl
 
 -- 2 ^ 2098 smallest values are 2 ^ 1024
 reaches : (a c w : ℕ) → a * 2 ^ 1074 ≡ w * c → 2 ^ 2098 ≤ w → 2 ^ 1024 * c ≤ a
@@ -115,38 +115,38 @@ module _ (s : Bool) (n l q j : ℕ) (L : 0 < l) (few : q < 2 ^ 53) (exact : n * 
 
   -- exact, for b / c a power of two whose place is i - j: it moves e to e'
   exact-first : (b c i e e' : ℕ) → 0 < c → b * 2 ^ j ≡ 2 ^ i * c → b * 2 ^ e ≡ 2 ^ e' * c → q * 2 ^ i < 2 ^ 2098
-      → scaled (round binary64 s (n * b) (l * c)) (minus e 1075) ≡ round binary64 s (n * 2 ^ e') (l * 2 ^ 1075)
+      → scaleB (round binary64 s (n * b) (l * c)) (minus e 1075) ≡ round binary64 s (n * 2 ^ e') (l * 2 ^ 1075)
   exact-first b c i e e' C h g u =
-      scaled-at (round binary64 s (n * b) (l * c)) s (n * b) (l * c) e (mul-pos L C) (round-exact binary64 s (n * b) (l * c) q i (mul-pos L C) few u (in-smallest b c i h))
+      scaleB-at (round binary64 s (n * b) (l * c)) s (n * b) (l * c) e (mul-pos L C) (round-exact binary64 s (n * b) (l * c) q i (mul-pos L C) few u (in-smallest b c i h))
       ∙ round-same binary64 s (n * b * 2 ^ e) (l * c * 2 ^ 1075) (n * 2 ^ e') (l * 2 ^ 1075) (mul-pos (mul-pos L C) (pow-pos 1075)) (mul-pos L (pow-pos 1075))
       (ap (λ (z : ℕ). z * (l * 2 ^ 1075)) (mul-assoc n b (2 ^ e) ∙ ap (λ (z : ℕ). n * z) g) ∙ regroup n (2 ^ e') c l (2 ^ 1075))
     where
       regroup : (n a c l p : ℕ) → n * (a * c) * (l * p) ≡ n * a * (l * c * p)
       regroup n a c l p = simp (mul-assoc, mul-comm)
 
-  doubled : (e : ℕ) → 1075 ≤ e → scaled (round binary64 s (n * 2) (l * 1)) (minus e 1075) ≡ round binary64 s (n * 2 ^ (1 + e)) (l * 2 ^ 1075)
+  doubled : (e : ℕ) → 1075 ≤ e → scaleB (round binary64 s (n * 2) (l * 1)) (minus e 1075) ≡ round binary64 s (n * 2 ^ (1 + e)) (l * 2 ^ 1075)
   doubled e E = go (ltb (q * 2 ^ (1 + j)) (2 ^ 2098)) (ltb→lt (q * 2 ^ (1 + j)) (2 ^ 2098)) (nltb→le (q * 2 ^ (1 + j)) (2 ^ 2098))
     where
       next : (i : ℕ) → 2 * 2 ^ i ≡ 2 ^ (1 + i) * 1
       next i = sym (pow-add 2 1 i) ∙ sym (mul-one (2 ^ (1 + i)))
 
       go : (b : Bool) → (T b → q * 2 ^ (1 + j) < 2 ^ 2098) → (T (not b) → 2 ^ 2098 ≤ q * 2 ^ (1 + j))
-          → scaled (round binary64 s (n * 2) (l * 1)) (minus e 1075) ≡ round binary64 s (n * 2 ^ (1 + e)) (l * 2 ^ 1075)
+          → scaleB (round binary64 s (n * 2) (l * 1)) (minus e 1075) ≡ round binary64 s (n * 2 ^ (1 + e)) (l * 2 ^ 1075)
       go true y x = exact-first 2 1 (1 + j) e (1 + e) (pow-pos 0) (next j) (next e) (y tt)
       go false y x =
           let big : 2 ^ 1024 * (l * 1) ≤ n * 2 = reaches (n * 2) (l * 1) (q * 2 ^ (1 + j)) (in-smallest 2 1 (1 + j) (next j)) (x tt) in
-          ap (λ (z : Float). scaled z (minus e 1075)) (round-to-infinity s (n * 2) (l * 1) (mul-pos L (pow-pos 0)) big)
-          ∙ scaled-inf s (minus e 1075)
+          ap (λ (z : Float). scaleB z (minus e 1075)) (round-to-infinity s (n * 2) (l * 1) (mul-pos L (pow-pos 0)) big)
+          ∙ scaleB-inf s (minus e 1075)
           ∙ sym (round-to-infinity s (n * 2 ^ (1 + e)) (l * 2 ^ 1075) (mul-pos L (pow-pos 1075))
           (le-trans (le-of-eq (ap (λ (z : ℕ). 2 ^ 1024 * (z * 2 ^ 1075)) (sym (mul-one l)) ∙ sym (mul-assoc (2 ^ 1024) (l * 1) (2 ^ 1075))))
           (le-trans (mul-le-mul big (pow-mono E)) (le-of-eq (mul-assoc n 2 (2 ^ e) ∙ ap (λ (z : ℕ). n * z) (sym (pow-add 2 1 e)))))))
 
   -- the smallest values themselves, and others below 1 / 4: nothing of them is left
-  vanishes : n * 4 ≤ l → scaled (round binary64 s (n * 1) (l * 2)) (minus 1 1075) ≡ round binary64 s (n * 2 ^ 0) (l * 2 ^ 1075)
+  vanishes : n * 4 ≤ l → scaleB (round binary64 s (n * 1) (l * 2)) (minus 1 1075) ≡ round binary64 s (n * 2 ^ 0) (l * 2 ^ 1075)
   vanishes small =
       let r = round binary64 s (n * 1) (l * 2) in
       let b : AtMost s (fin false 1 (negsuc 1)) r = round-at-most binary64 s (n * 1) (l * 2) (fin false 1 (negsuc 1)) (mul-pos L (pow-pos 1)) quarter-fits tt (first n l small) in
-      scaled-at r s (num r) (den r) 1 (den-pos r) (of-cross r s (num r) (den r) (b .is-finite) (b .sign) refl)
+      scaleB-at r s (num r) (den r) 1 (den-pos r) (of-cross r s (num r) (den r) (b .is-finite) (b .sign) refl)
       ∙ round-to-zero s (num r * 2 ^ 1) (den r * 2 ^ 1075) (mul-lt-mul-of-pos-right (second (num r) (den r) (b .bound) (den-pos r)) (pow-pos 1075))
       ∙ sym (round-to-zero s (n * 2 ^ 0) (l * 2 ^ 1075) (mul-lt-mul-of-pos-right (third n l small L) (pow-pos 1075)))
     where
@@ -160,7 +160,7 @@ module _ (s : Bool) (n l q j : ℕ) (L : 0 < l) (few : q < 2 ^ 53) (exact : n * 
       third a c h p = omega arith
 
 halved-at : (s : Bool) (n l q j : ℕ) → 0 < l → q < 2 ^ 53 → n * 2 ^ 1074 ≡ q * 2 ^ j * l → q * 2 ^ j < 2 ^ 2098
-    → scaled (round binary64 s (n * 1) (l * 2)) (minus 1 1075) ≡ round binary64 s (n * 2 ^ 0) (l * 2 ^ 1075)
+    → scaleB (round binary64 s (n * 1) (l * 2)) (minus 1 1075) ≡ round binary64 s (n * 2 ^ 0) (l * 2 ^ 1075)
 halved-at s n l q zero L few exact u = vanishes s n l q 0 L few exact (quarter n l q exact few)
 halved-at s n l q (suc i) L few exact u = exact-first s n l q (suc i) L few exact 1 2 i 1 0 (pow-pos 1) before refl (lt-of-le-of-lt (mul-le-mul-left q (pow-mono (le-suc i))) u)
   where
@@ -170,29 +170,29 @@ halved-at s n l q (suc i) L few exact u = exact-first s n l q (suc i) L few exac
     before : 1 * 2 ^ suc i ≡ 2 ^ i * 2
     before = one-mul (2 ^ suc i) ∙ ap (λ (z : ℕ). 2 ^ z) (next i) ∙ pow-add 2 i 1
 
-pub twice : (y : Float) (e : ℕ) → T (fits binary64 y) → 1075 ≤ e → scaled (y ⊗ two) (minus e 1075) ≡ scaled y (minus (1 + e) 1075)
-unfolding mul scaled ofBits
+pub twice : (y : Float) (e : ℕ) → T (fits binary64 y) → 1075 ≤ e → scaleB (y ⊗ two) (minus e 1075) ≡ scaleB y (minus (1 + e) 1075)
+unfolding mul scaleB ofBits
 twice nan e F E = refl
 twice (inf true) e F E = refl
 twice (inf false) e F E = refl
 twice (fin s m d) e F E =
     let y = fin s m d in
-    let o = own binary64 y F tt in
-    ap (λ (z : Float). scaled z (minus e 1075)) (times-fraction y two 2 1 tt (pow-pos 1) (pow-pos 0) two-value)
+    let o = representable binary64 y F tt in
+    ap (λ (z : Float). scaleB z (minus e 1075)) (times-fraction y two 2 1 tt (pow-pos 1) (pow-pos 0) two-value)
     ∙ doubled s (m * up d) (down d) (o .digits) (o .place) (down-pos d) (o .few) (o .exact) e E
-    ∙ sym (scaled-at y s (m * up d) (down d) (1 + e) (down-pos d) (refl, refl))
+    ∙ sym (scaleB-at y s (m * up d) (down d) (1 + e) (down-pos d) (refl, refl))
 
-pub halved : (y : Float) → T (fits binary64 y) → scaled (y ⊗ half) (minus 1 1075) ≡ scaled y (minus 0 1075)
-unfolding mul scaled ofBits
+pub halved : (y : Float) → T (fits binary64 y) → scaleB (y ⊗ half) (minus 1 1075) ≡ scaleB y (minus 0 1075)
+unfolding mul scaleB ofBits
 halved nan F = refl
 halved (inf true) F = refl
 halved (inf false) F = refl
 halved (fin s m d) F =
     let y = fin s m d in
-    let o = own binary64 y F tt in
-    ap (λ (z : Float). scaled z (minus 1 1075)) (times-fraction y half 1 2 tt (pow-pos 0) (pow-pos 1) half-value)
+    let o = representable binary64 y F tt in
+    ap (λ (z : Float). scaleB z (minus 1 1075)) (times-fraction y half 1 2 tt (pow-pos 0) (pow-pos 1) half-value)
     ∙ halved-at s (m * up d) (down d) (o .digits) (o .place) (down-pos d) (o .few) (o .exact) (o .under)
-    ∙ sym (scaled-at y s (m * up d) (down d) 0 (down-pos d) (refl, refl))
+    ∙ sym (scaleB-at y s (m * up d) (down d) 0 (down-pos d) (refl, refl))
 
 -- ---- the bit patterns of the powers
 one-place-up : (w i : ℕ) → w ≡ 2 ^ i → 2 ^ (1 + i) * 2 ^ 1074 ≡ w * 2 ^ 1075

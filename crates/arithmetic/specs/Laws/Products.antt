@@ -12,12 +12,12 @@ use lib.Ieee.Fits.{up-pos, eq→eqb}
 use lib.Ieee.Scale.{finite, round-same}
 use lib.Ieee.Positive.{num, den, den-pos}
 use Rattle.arithmetic.specs.Laws.Ratio.{eqb-ratio, zero-ratio}
-use Rattle.arithmetic.specs.Basic.{minus?}
+use Rattle.arithmetic.specs.Basic.{isSignMinus}
 use Rattle.arithmetic.specs.Laws.Times.{Times}
 use Rattle.arithmetic.specs.Laws.Rounding.{Safe, round-times}
 
 -- ---- the product
-pub mul-is : (f : Format) (x y : Float) → T (finite x) → T (finite y) → mul f x y ≡ round f (unlike (minus? x) (minus? y)) (num x * num y) (den x * den y)
+pub mul-is : (f : Format) (x y : Float) → T (finite x) → T (finite y) → mul f x y ≡ round f (unlike (isSignMinus x) (isSignMinus y)) (num x * num y) (den x * den y)
 unfolding mul
 mul-is f nan y p q = absurd p
 mul-is f (inf s) y p q = absurd p
@@ -36,7 +36,7 @@ product-ratio nx dx ny dy nx' dx' ny' dy' s t r R p q =
 -- The exact product of the smaller pair is in the normal range, or a whole number of the format's smallest values, and that of the larger pair does not overflow.
 pub mul-times : (f : Format) (j k : ℕ) (x y x' y' : Float) → Times j x x' → Times k y y' → Safe f (num x * num y) (den x * den y) → T (finite (mul f x' y')) → Times (j + k) (mul f x y) (mul f x' y')
 mul-times f j k x y x' y' h g S t =
-    let u = unlike (minus? x) (minus? y) in
+    let u = unlike (isSignMinus x) (isSignMinus y) in
     let big : mul f x' y' ≡ round f u (num x' * num y') (den x' * den y') = mul-is f x' y' (h .finite-r) (g .finite-r) ∙ rw (h .sign, g .sign) in
     rw (mul-is f x y (h .finite-l) (g .finite-l), big)
     (round-times f u (j + k) (num x * num y) (den x * den y) (num x' * num y') (den x' * den y') (mul-pos (den-pos x) (den-pos y)) (mul-pos (den-pos x') (den-pos y'))
@@ -50,7 +50,7 @@ quotient f u nx dx ny dy i j = cond j (cond i nan (inf u)) (round f u (nx * dy) 
 zero-test : (m : ℕ) (e : ℤ) → eqb m 0 ≡ eqb (m * up e) 0
 zero-test m e = sym (eqb-ratio 1 (up e) (zero-lt-suc 0) (up-pos e) m 0 (m * up e) 0 (mul-one (m * up e)) (zero-ratio 1 (up e)))
 
-pub div-is : (f : Format) (x y : Float) → T (finite x) → T (finite y) → div f x y ≡ quotient f (unlike (minus? x) (minus? y)) (num x) (den x) (num y) (den y) (eqb (num x) 0) (eqb (num y) 0)
+pub div-is : (f : Format) (x y : Float) → T (finite x) → T (finite y) → div f x y ≡ quotient f (unlike (isSignMinus x) (isSignMinus y)) (num x) (den x) (num y) (den y) (eqb (num x) 0) (eqb (num y) 0)
 unfolding div
 div-is f nan y p q = absurd p
 div-is f (inf s) y p q = absurd p
@@ -79,10 +79,10 @@ div-times f k x y x' y' h g =
     (go (eqb (num y) 0) (eqb (num y') 0) (zero-times k y y' g) (not-zero (num y)) (not-zero (num y')))
   where
     go : (i i' : Bool) → i' ≡ i → (T (not i) → 0 < num y) → (T (not i') → 0 < num y')
-        → quotient f (unlike (minus? x) (minus? y)) (num x') (den x') (num y') (den y') (eqb (num x) 0) i' ≡ quotient f (unlike (minus? x) (minus? y)) (num x) (den x) (num y) (den y) (eqb (num x) 0) i
+        → quotient f (unlike (isSignMinus x) (isSignMinus y)) (num x') (den x') (num y') (den y') (eqb (num x) 0) i' ≡ quotient f (unlike (isSignMinus x) (isSignMinus y)) (num x) (den x) (num y) (den y) (eqb (num x) 0) i
     go true true e p q = refl
     go true false e p q = absurd (false≢true e)
     go false true e p q = absurd (true≢false e)
     go false false e p q =
-        round-same f (unlike (minus? x) (minus? y)) (num x' * den y') (num y' * den x') (num x * den y) (num y * den x) (mul-pos (q tt) (den-pos x')) (mul-pos (p tt) (den-pos x))
+        round-same f (unlike (isSignMinus x) (isSignMinus y)) (num x' * den y') (num y' * den x') (num x * den y) (num y * den x) (mul-pos (q tt) (den-pos x')) (mul-pos (p tt) (den-pos x))
         (quotient-same (num x) (den x) (num y) (den y) (num x') (den x') (num y') (den y') (2 ^ k) (h .value) (g .value))

@@ -14,11 +14,11 @@ use lib.Ieee.Positive.{num, den, den-pos, positive, own-value, value-pos, value�
 use Rattle.arithmetic.specs.Operations.{_⊘_, two, minPositive}
 use Rattle.arithmetic.specs.Sqrt.{sqrt}
 use Rattle.arithmetic.specs.Laws.Times.{positive-sign}
-use Rattle.arithmetic.specs.Laws.Own.{grid-under}
+use Rattle.arithmetic.specs.Laws.Representable.{grid-under}
 use Rattle.arithmetic.specs.Laws.Sums.{round-finite}
 use Rattle.arithmetic.specs.Laws.Products.{div-is}
-use Rattle.arithmetic.specs.Laws.Halves.{Ordinary, minPositive-is, positive-zero}
-use Rattle.arithmetic.specs.Laws.SqrtNearest.{sqrt-right}
+use Rattle.arithmetic.specs.Laws.ScaledRatios.{PositiveNormal, minPositive-is, positive-zero}
+use Rattle.arithmetic.specs.Laws.SqrtNearest.{sqrt-is-nearest}
 use Rattle.arithmetic.specs.Laws.SqrtBounds.{sqrt-finite, sqrt-positive}
 
 -- ---- what is no NaN
@@ -93,7 +93,7 @@ not-under n d g e h =
     right : (d : ℕ) → 2 * 2 ^ 2096 * d ≡ 2 * d * 2 ^ 1022 * 2 ^ 1074
     right d = mul-right-comm 2 (2 ^ 2096) d ∙ sym (mul-assoc (2 * d) (2 ^ 1022) (2 ^ 1074))
 
-pub two-over-root : (x : Float) → T (positive x) → T (fits binary64 x) → Ordinary (two ⊘ sqrt x)
+pub two-over-root : (x : Float) → T (positive x) → T (fits binary64 x) → PositiveNormal (two ⊘ sqrt x)
 unfolding ofBits
 two-over-root x p F = record {
   held = div-fits binary64 two (sqrt x);
@@ -105,16 +105,16 @@ two-over-root x p F = record {
 }
   where
     g : ℕ
-    g = sqrt-right x p F .q * 2 ^ sqrt-right x p F .k
+    g = sqrt-is-nearest x p F .q * 2 ^ sqrt-is-nearest x p F .k
 
     e : num (sqrt x) * 2 ^ 1074 ≡ g * den (sqrt x)
-    e = value→cross (sqrt x) g (2 ^ 1074) (sqrt-right x p F .root-value)
+    e = value→cross (sqrt x) g (2 ^ 1074) (sqrt-is-nearest x p F .root-value)
 
     lower : 2 ^ 52 ≤ g
-    lower = le-trans (sqrt-right x p F .q-low) (le-trans (le-of-eq (sym (mul-one (sqrt-right x p F .q)))) (mul-le-mul-left (sqrt-right x p F .q) (pow-pos (sqrt-right x p F .k))))
+    lower = le-trans (sqrt-is-nearest x p F .q-low) (le-trans (le-of-eq (sym (mul-one (sqrt-is-nearest x p F .q)))) (mul-le-mul-left (sqrt-is-nearest x p F .q) (pow-pos (sqrt-is-nearest x p F .k))))
 
     upper : g ≤ 2 ^ 1586
-    upper = mul-le-mul (le-of-lt (sqrt-right x p F .q-high)) (pow-mono (le-of-suc-le-suc (sqrt-right x p F .k-lt)))
+    upper = mul-le-mul (le-of-lt (sqrt-is-nearest x p F .q-high)) (pow-mono (le-of-suc-le-suc (sqrt-is-nearest x p F .k-lt)))
 
     low' : 0 < num (sqrt x) * 1
     low' = subst (λ (z : ℕ). 0 < z) (sym (mul-one (num (sqrt x)))) (num-positive (sqrt x) (sqrt-positive x p F))

@@ -11,7 +11,7 @@ use lib.Ieee.Bits.{ofBits-toBits, nanBits-is}
 use lib.Ieee.Compare.{differs-from-itself}
 use lib.Ieee.Scale.{finite}
 use Rattle.arithmetic.specs.Operations.{bits, infinity, one}
-use Rattle.arithmetic.specs.Basic.{minus?, abs, signum, isInfinite}
+use Rattle.arithmetic.specs.Basic.{isSignMinus, abs, signum, isInfinite}
 use Rattle.arithmetic.specs.Laws.Compare.{is-no-nan}
 use Rattle.arithmetic.specs.Laws.Patterns.{ofBits-is, at-zero, above-zero}
 
@@ -38,7 +38,7 @@ infinite-test (inf false) = refl
 infinite-test (fin s m e) = refl
 
 -- ---- the sign is the pattern's highest bit
-odd-minus : (s : Bool) (q k : ℕ) → minus? (odd 53 s q k 1074) ≡ s
+odd-minus : (s : Bool) (q k : ℕ) → isSignMinus (odd 53 s q k 1074) ≡ s
 unfolding odd
 odd-minus s zero k = refl
 odd-minus s (suc q) k = refl
@@ -48,12 +48,12 @@ unfolding odd abs
 odd-abs s zero k = refl
 odd-abs s (suc q) k = refl
 
-fields-minus : (s : Bool) (x t : ℕ) → isNan (ofFields binary64 s x t) ≡ false → minus? (ofFields binary64 s x t) ≡ s
+fields-minus : (s : Bool) (x t : ℕ) → isNan (ofFields binary64 s x t) ≡ false → isSignMinus (ofFields binary64 s x t) ≡ s
 unfolding isNan
-fields-minus s zero t h = ap minus? (at-zero s t) ∙ odd-minus s t 0
-fields-minus s (suc x) t h = ap minus? (above-zero s x t) ∙ go (eqb (suc x) 2047) (eqb t 0) (ap isNan (sym (above-zero s x t)) ∙ h)
+fields-minus s zero t h = ap isSignMinus (at-zero s t) ∙ odd-minus s t 0
+fields-minus s (suc x) t h = ap isSignMinus (above-zero s x t) ∙ go (eqb (suc x) 2047) (eqb t 0) (ap isNan (sym (above-zero s x t)) ∙ h)
   where
-    go : (a b : Bool) → isNan (cond a (cond b (inf s) nan) (odd 53 s (4503599627370496 + t) x 1074)) ≡ false → minus? (cond a (cond b (inf s) nan) (odd 53 s (4503599627370496 + t) x 1074)) ≡ s
+    go : (a b : Bool) → isNan (cond a (cond b (inf s) nan) (odd 53 s (4503599627370496 + t) x 1074)) ≡ false → isSignMinus (cond a (cond b (inf s) nan) (odd 53 s (4503599627370496 + t) x 1074)) ≡ s
     go true true h = refl
     go true false h = absurd (true≢false h)
     go false b h = odd-minus s (4503599627370496 + t) x
@@ -93,20 +93,20 @@ abs-no-nan x h n = subst (λ (b : Bool). T (not b)) (sym (nanBits-is binary64 (t
     go (inf s) n = refl
     go (fin s m e) n = refl
 
-pub sign-bit : (x : Float) → T (fits binary64 x) → isNan x ≡ false → minus? x ≡ leb 9223372036854775808 (toBits binary64 x)
-sign-bit x h n = let b = toBits binary64 x in sym (ap minus? back) ∙ ap minus? (ofBits-is b) ∙ fields-minus (leb 9223372036854775808 b) (b % 9223372036854775808 / 4503599627370496) (b % 4503599627370496) (ap isNan (sym (ofBits-is b) ∙ back) ∙ n)
+pub sign-bit : (x : Float) → T (fits binary64 x) → isNan x ≡ false → isSignMinus x ≡ leb 9223372036854775808 (toBits binary64 x)
+sign-bit x h n = let b = toBits binary64 x in sym (ap isSignMinus back) ∙ ap isSignMinus (ofBits-is b) ∙ fields-minus (leb 9223372036854775808 b) (b % 9223372036854775808 / 4503599627370496) (b % 4503599627370496) (ap isNan (sym (ofBits-is b) ∙ back) ∙ n)
   where
     back : ofBits binary64 (toBits binary64 x) ≡ x
     back = ofBits-toBits binary64 x h
 
 module _ (x : Float) (h : T (fits binary64 x)) (n : isNan x ≡ false) where
-  pub sign-clear : toBits binary64 x < 9223372036854775808 → minus? x ≡ false
+  pub sign-clear : toBits binary64 x < 9223372036854775808 → isSignMinus x ≡ false
   sign-clear l = sign-bit x h n ∙ lt-leb 9223372036854775808 (toBits binary64 x) l
 
-  pub sign-set : 9223372036854775808 ≤ toBits binary64 x → minus? x ≡ true
+  pub sign-set : 9223372036854775808 ≤ toBits binary64 x → isSignMinus x ≡ true
   sign-set l = sign-bit x h n ∙ le-leb 9223372036854775808 (toBits binary64 x) l
 
-pub sign-test : (x : Float) → T (fits binary64 x) → isNan x ≡ false → ltb (toBits binary64 x) 9223372036854775808 ≡ not (minus? x)
+pub sign-test : (x : Float) → T (fits binary64 x) → isNan x ≡ false → ltb (toBits binary64 x) 9223372036854775808 ≡ not (isSignMinus x)
 sign-test x h n = go (leb 9223372036854775808 b) refl ∙ sym (ap not (sign-bit x h n))
   where
     b : ℕ
@@ -117,7 +117,7 @@ sign-test x h n = go (leb 9223372036854775808 b) refl ∙ sym (ap not (sign-bit 
     go false e = lt-ltb b 9223372036854775808 (leb-false 9223372036854775808 b e) ∙ sym (ap not e)
 
 -- ---- `signum` by the sign
-pub signum-is : (x : Float) → isNan x ≡ false → signum x ≡ cond (minus? x) (neg one) one
+pub signum-is : (x : Float) → isNan x ≡ false → signum x ≡ cond (isSignMinus x) (neg one) one
 unfolding signum isNan
 signum-is nan n = absurd (true≢false n)
 signum-is (inf s) n = refl

@@ -12,24 +12,24 @@ use lib.Pow.{pow-add, pow-pos, pow-mono}
 use lib.Ieee.{Float, fin, binary64, fits, mul, round}
 use lib.Ieee.Scale.{finite, normal-of-fraction}
 use lib.Ieee.Positive.{num, den, den-pos, positive, positive-of-value, value→cross}
-use Rattle.arithmetic.specs.Basic.{minus?}
+use Rattle.arithmetic.specs.Basic.{isSignMinus}
 use Rattle.arithmetic.specs.Sqrt.{sqrt}
 use Rattle.arithmetic.specs.Laws.Numbers.{four}
 use Rattle.arithmetic.specs.Laws.Times.{Times, has-finite, has-sign}
-use Rattle.arithmetic.specs.Laws.Own.{grid-under}
+use Rattle.arithmetic.specs.Laws.Representable.{grid-under}
 use Rattle.arithmetic.specs.Laws.Sums.{round-finite}
 use Rattle.arithmetic.specs.Laws.Products.{mul-is, mul-times}
-use Rattle.arithmetic.specs.Laws.Halves.{Ordinary, ordinary-positive, large-cross}
-use Rattle.arithmetic.specs.Laws.SqrtNearest.{sqrt-right}
+use Rattle.arithmetic.specs.Laws.ScaledRatios.{PositiveNormal, normal-positive, large-cross}
+use Rattle.arithmetic.specs.Laws.SqrtNearest.{sqrt-is-nearest}
 use Rattle.arithmetic.specs.Laws.SqrtScaling.{sqrt-times}
 
 -- ---- a root
 pub sqrt-finite : (x : Float) → T (positive x) → T (fits binary64 x) → T (finite (sqrt x))
-sqrt-finite x p f = let r = sqrt-right x p f in has-finite (sqrt x) false (r .q * 2 ^ r .k) (2 ^ 1074) (r .root-value)
+sqrt-finite x p f = let r = sqrt-is-nearest x p f in has-finite (sqrt x) false (r .q * 2 ^ r .k) (2 ^ 1074) (r .root-value)
 
 pub sqrt-positive : (x : Float) → T (positive x) → T (fits binary64 x) → T (positive (sqrt x))
 sqrt-positive x p f =
-    let r = sqrt-right x p f in
+    let r = sqrt-is-nearest x p f in
     positive-of-value (sqrt x) (r .q * 2 ^ r .k) (2 ^ 1074) (r .root-value) (mul-pos (lt-of-lt-of-le (pow-pos 52) (r .q-low)) (pow-pos (r .k)))
 
 -- ---- the root of an ordinary value
@@ -40,11 +40,11 @@ largestRoot = fin false 9007199254740991 (pos 459)
 abbrev largest : Float
 largest = fin false 9007199254740991 (pos 971)
 
-pub root-sign : (x : Float) → Ordinary x → minus? (sqrt x) ≡ false
-root-sign x o = let r = sqrt-right x (ordinary-positive x o) (o .held) in has-sign (sqrt x) false (r .q * 2 ^ r .k) (2 ^ 1074) (r .root-value)
+pub root-sign : (x : Float) → PositiveNormal x → isSignMinus (sqrt x) ≡ false
+root-sign x o = let r = sqrt-is-nearest x (normal-positive x o) (o .held) in has-sign (sqrt x) false (r .q * 2 ^ r .k) (2 ^ 1074) (r .root-value)
 
-pub root-finite : (x : Float) → Ordinary x → T (finite (sqrt x))
-root-finite x o = sqrt-finite x (ordinary-positive x o) (o .held)
+pub root-finite : (x : Float) → PositiveNormal x → T (finite (sqrt x))
+root-finite x o = sqrt-finite x (normal-positive x o) (o .held)
 
 square-under : (q : ℕ) → q < 2 ^ 53 → (2 * q + 1) * (2 * q + 1) ≤ 2 ^ 54 * 2 ^ 54
 square-under q h = let g : 2 * q + 1 ≤ 2 ^ 54 = omega arith in mul-le-mul g g
@@ -59,9 +59,9 @@ exponent-least q k a Q below lo =
     half : 1128 < 108 + 2 * k → 511 ≤ k
     half h = omega arith
 
-pub root-least : (x : Float) → Ordinary x → den (sqrt x) ≤ num (sqrt x) * 2 ^ 511
+pub root-least : (x : Float) → PositiveNormal x → den (sqrt x) ≤ num (sqrt x) * 2 ^ 511
 root-least x o =
-    let r = sqrt-right x (ordinary-positive x o) (o .held) in
+    let r = sqrt-is-nearest x (normal-positive x o) (o .held) in
     let k : 511 ≤ r .k = exponent-least (r .q) (r .k) (r .a) (r .q-high) (r .below) (large (num x) (den x) (r .a) (den-pos x) (value→cross x (r .a) (2 ^ 2148) (r .value)) (large-cross x o)) in
     lowest (num (sqrt x)) (den (sqrt x)) (r .q * 2 ^ r .k) (value→cross (sqrt x) (r .q * 2 ^ r .k) (2 ^ 1074) (r .root-value)) (mul-le-mul (r .q-low) (pow-mono k))
   where
@@ -71,17 +71,17 @@ root-least x o =
     lowest : (n d g : ℕ) → n * 2 ^ 1074 ≡ g * d → 2 ^ 563 ≤ g → d ≤ n * 2 ^ 511
     lowest n d g e h = le-of-mul-le-mul-right (le-trans (le-of-eq (mul-comm d (2 ^ 563))) (le-trans (mul-le-mul-right d h) (le-of-eq (sym e ∙ sym (mul-assoc n (2 ^ 511) (2 ^ 563)))))) (pow-pos 563)
 
-pub root-most : (x : Float) → Ordinary x → num (sqrt x) * den largestRoot ≤ num largestRoot * den (sqrt x)
+pub root-most : (x : Float) → PositiveNormal x → num (sqrt x) * den largestRoot ≤ num largestRoot * den (sqrt x)
 root-most x o =
-    let r = sqrt-right x (ordinary-positive x o) (o .held) in
+    let r = sqrt-is-nearest x (normal-positive x o) (o .held) in
     highest (num (sqrt x)) (den (sqrt x)) (r .q * 2 ^ r .k) (value→cross (sqrt x) (r .q * 2 ^ r .k) (2 ^ 1074) (r .root-value)) (mul-le-mul (le-of-suc-le-suc (r .q-high)) (pow-mono (le-of-suc-le-suc (r .k-lt))))
   where
     highest : (n d g : ℕ) → n * 2 ^ 1074 ≡ g * d → g ≤ 9007199254740991 * 2 ^ 1533 → n * 1 ≤ 9007199254740991 * 2 ^ 459 * d
     highest n d g e h =
         le-of-mul-le-mul-right (le-trans (le-of-eq (ap (λ (z : ℕ). z * 2 ^ 1074) (mul-one n) ∙ e)) (le-trans (mul-le-mul-right d h) (le-of-eq (mul-right-comm (9007199254740991 * 2 ^ 459) (2 ^ 1074) d)))) (pow-pos 1074)
 
-pub root-times : (k : ℕ) (x y : Float) → Ordinary x → Times (k + k) x y → Times k (sqrt x) (sqrt y)
-root-times k x y o h = sqrt-times k x y (ordinary-positive x o) (o .held) h
+pub root-times : (k : ℕ) (x y : Float) → PositiveNormal x → Times (k + k) x y → Times k (sqrt x) (sqrt y)
+root-times k x y o h = sqrt-times k x y (normal-positive x o) (o .held) h
 
 -- ---- the product of two roots
 square-low : (na da nb db Q : ℕ) → da ≤ na * Q → db ≤ nb * Q → da * db ≤ na * nb * (Q * Q)
@@ -97,13 +97,13 @@ largest-fits : T (fits binary64 largest)
 unfolding fits
 largest-fits = tt
 
-product-low : (f k : Float) → Ordinary f → Ordinary k → den (sqrt f) * den (sqrt k) ≤ num (sqrt f) * num (sqrt k) * 2 ^ 1022
+product-low : (f k : Float) → PositiveNormal f → PositiveNormal k → den (sqrt f) * den (sqrt k) ≤ num (sqrt f) * num (sqrt k) * 2 ^ 1022
 product-low f k o q = square-low (num (sqrt f)) (den (sqrt f)) (num (sqrt k)) (den (sqrt k)) (2 ^ 511) (root-least f o) (root-least k q)
 
-product-is : (f k : Float) → Ordinary f → Ordinary k → mul binary64 (sqrt f) (sqrt k) ≡ round binary64 false (num (sqrt f) * num (sqrt k)) (den (sqrt f) * den (sqrt k))
+product-is : (f k : Float) → PositiveNormal f → PositiveNormal k → mul binary64 (sqrt f) (sqrt k) ≡ round binary64 false (num (sqrt f) * num (sqrt k)) (den (sqrt f) * den (sqrt k))
 product-is f k o q = mul-is binary64 (sqrt f) (sqrt k) (root-finite f o) (root-finite k q) ∙ rw (root-sign f o, root-sign k q)
 
-pub roots-finite : (f k : Float) → Ordinary f → Ordinary k → T (finite (mul binary64 (sqrt f) (sqrt k)))
+pub roots-finite : (f k : Float) → PositiveNormal f → PositiveNormal k → T (finite (mul binary64 (sqrt f) (sqrt k)))
 roots-finite f k o q =
     let a = sqrt f in
     let b = sqrt k in
@@ -112,7 +112,7 @@ roots-finite f k o q =
     (grid-under binary64 (num a * num b) (den a * den b) largest (mul-pos (den-pos a) (den-pos b)) largest-fits tt
     (square-high (num a) (den a) (num b) (den b) (num largestRoot) (num largest) (root-most f o) (root-most k q) (lit≤ tt))))
 
-pub roots-times : (n : ℕ) (f k f' k' : Float) → Ordinary f → Ordinary k → Ordinary f' → Ordinary k' → Times (n + n) f f' → Times (n + n) k k' → Times (n + n) (mul binary64 (sqrt f) (sqrt k)) (mul binary64 (sqrt f') (sqrt k'))
+pub roots-times : (n : ℕ) (f k f' k' : Float) → PositiveNormal f → PositiveNormal k → PositiveNormal f' → PositiveNormal k' → Times (n + n) f f' → Times (n + n) k k' → Times (n + n) (mul binary64 (sqrt f) (sqrt k)) (mul binary64 (sqrt f') (sqrt k'))
 roots-times n f k f' k' o q o' q' h g =
     let A = num (sqrt f) * num (sqrt k) in
     let C = den (sqrt f) * den (sqrt k) in

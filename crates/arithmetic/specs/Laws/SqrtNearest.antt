@@ -14,12 +14,12 @@ use lib.Ieee.Positive.{positive, positive-finite, first-pos, value-pos}
 use Rattle.arithmetic.specs.Sqrt.{closestRoot, sqrtUnits, sqrt}
 use Rattle.arithmetic.specs.Laws.Numbers.{four, four-pos, pow-split, size-gt, size-mul, all-ones}
 use Rattle.arithmetic.specs.Laws.Times.{positive-value, rescale}
-use Rattle.arithmetic.specs.Laws.Own.{own}
+use Rattle.arithmetic.specs.Laws.Representable.{representable}
 use Rattle.arithmetic.specs.Laws.WholeRoots.{near, units-at}
 use Rattle.arithmetic.specs.Laws.SqrtValues.{sqrt-of}
 
 -- √x is q * 2 ^ k units of 2 ^ -1074, and x is a units of 2 ^ -2148. The real root lies strictly between q - 1 / 2 and q + 1 / 2 times 2 ^ k units.
-pub record Right (x r : Float) : Type 0 where
+pub record NearestRoot (x r : Float) : Type 0 where
   pub q : ℕ
   pub k : ℕ
   pub a : ℕ
@@ -52,8 +52,8 @@ above-of n q p h = go (2 * q - 1) (omega arith)
     go y e = let g = ap (λ (z : ℕ). z * z) e in omega arith
 
 -- ---- the root of A units, which are n * 4 ^ k units of 2 ^ -2148
-right-at : (x : Float) (A n k : ℕ) → 0 < A → HasValue x false A (2 ^ 1074) → A * 2 ^ 1074 ≡ n * 4 ^ k → 2 ^ 104 ≤ n → n ≤ 9007199254740991 * 2 ^ 53 → k < 1534 → Right x (sqrt x)
-right-at x A n k A-pos v e lo hi K =
+nearest-root-at : (x : Float) (A n k : ℕ) → 0 < A → HasValue x false A (2 ^ 1074) → A * 2 ^ 1074 ≡ n * 4 ^ k → 2 ^ 104 ≤ n → n ≤ 9007199254740991 * 2 ^ 53 → k < 1534 → NearestRoot x (sqrt x)
+nearest-root-at x A n k A-pos v e lo hi K =
     let q = closestRoot n 0 in
     let n-lt : n < 2 ^ 106 = omega arith in
     let N = near n (lt-of-lt-of-le (pow-pos 104) lo) n-lt in
@@ -78,9 +78,9 @@ right-at x A n k A-pos v e lo hi K =
     below-of q h = omega arith
 
 -- the definition is right: the result is the nearest value, and no root is a tie. With m digits before j zeros there are 4 ^ k and n = m * 2 ^ i, a whole number, since k is at most half of j.
-pub sqrt-right : (x : Float) → T (positive x) → T (fits binary64 x) → Right x (sqrt x)
-sqrt-right x p f =
-    let o = own binary64 x f (positive-finite x p) in
+pub sqrt-is-nearest : (x : Float) → T (positive x) → T (fits binary64 x) → NearestRoot x (sqrt x)
+sqrt-is-nearest x p f =
+    let o = representable binary64 x f (positive-finite x p) in
     let m = o .digits in
     let j = o .place in
     let v = positive-value x (m * 2 ^ j) (2 ^ 1074) p (o .exact) in
@@ -93,7 +93,7 @@ sqrt-right x p f =
     let e : m * 2 ^ j * 2 ^ 1074 ≡ m * 2 ^ i * 4 ^ k =
     mul-assoc m (2 ^ j) (2 ^ 1074) ∙ ap (λ (y : ℕ). m * y) (pow-split j 1074 (j + 1074) (omega arith) ∙ sym (pow-split i (2 * k) (j + 1074) (b .0)) ∙ ap (λ (y : ℕ). 2 ^ i * y) (sym (four k))) ∙ sym (mul-assoc m (2 ^ i) (4 ^ k)) in
     let s = size-mul m i M in
-    right-at x (m * 2 ^ j) (m * 2 ^ i) k A v e
+    nearest-root-at x (m * 2 ^ j) (m * 2 ^ i) k A v e
     (size-reaches (m * 2 ^ i) 104 (subst (λ (y : ℕ). 104 < y) (sym s) (b .1)))
     (all-ones 53 53 m i (o .few) (lt-of-lt-of-le (size-lt (m * 2 ^ i)) (pow-mono (subst (λ (y : ℕ). y ≤ 106) (sym s) (b .2)))))
     (b .3)
@@ -104,6 +104,6 @@ sqrt-right x p f =
 -- ---- the format holds every root
 pub sqrt-fits : (x : Float) → T (positive x) → T (fits binary64 x) → T (fits binary64 (sqrt x))
 sqrt-fits x p f =
-    let r = sqrt-right x p f in
+    let r = sqrt-is-nearest x p f in
     let room : 53 + r .k ≤ 2098 = omega (arith, r .k-lt) in
     subst (λ (z : Float). T (fits binary64 z)) (sym (r .root-is)) (odd-fits binary64 53 false (r .q) (r .k) (r .q-high) (le-of-lt (r .q-high)) (lt-of-lt-of-le (shl-lt 53 (r .k) (r .q-high)) (pow-mono room)))

@@ -13,7 +13,7 @@ use lib.Ieee.Positive.{positive, positive-finite, value-pos}
 use Rattle.arithmetic.specs.Sqrt.{closestRoot, sqrtUnits, sqrt}
 use Rattle.arithmetic.specs.Laws.Numbers.{four-square, four-pos, size-gt, size-four}
 use Rattle.arithmetic.specs.Laws.Times.{Times, times-value, times-of-values, positive-value}
-use Rattle.arithmetic.specs.Laws.Own.{own}
+use Rattle.arithmetic.specs.Laws.Representable.{representable}
 use Rattle.arithmetic.specs.Laws.WholeRoots.{closest-four, sqrtUnits-is}
 use Rattle.arithmetic.specs.Laws.SqrtValues.{sqrt-of}
 
@@ -41,7 +41,7 @@ units-times x y A j h v w =
 
 pub sqrt-times : (k : ℕ) (x y : Float) → T (positive x) → T (fits binary64 x) → Times (k + k) x y → Times k (sqrt x) (sqrt y)
 sqrt-times k x y p f h =
-    let o = own binary64 x f (positive-finite x p) in
+    let o = representable binary64 x f (positive-finite x p) in
     let A = o .digits * 2 ^ o .place in
     let v = positive-value x A (2 ^ 1074) p (o .exact) in
     units-times x y A k (value-pos x A (2 ^ 1074) p (pow-pos 1074) v) v (rw four-square (times-value (k + k) x y false A (2 ^ 1074) h v))

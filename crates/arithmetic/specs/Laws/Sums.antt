@@ -14,10 +14,10 @@ use borrow.Author.Tests.{lt-ltb, le-ltb}
 use lib.Ieee.Positive.{num, den, den-pos}
 use Rattle.arithmetic.specs.Laws.Numbers.{lt-or-le}
 use Rattle.arithmetic.specs.Laws.Ratio.{ltb-ratio, add-ratio, sub-ratio}
-use Rattle.arithmetic.specs.Basic.{minus?}
+use Rattle.arithmetic.specs.Basic.{isSignMinus}
 use Rattle.arithmetic.specs.Laws.Times.{Times, neg-times, neg-num, neg-den, neg-sign, neg-finite, has-finite}
 use Rattle.arithmetic.specs.Laws.Rounding.{Whole, round-times, round-value}
-use Rattle.arithmetic.specs.Laws.Own.{whole, grid-under}
+use Rattle.arithmetic.specs.Laws.Representable.{whole, grid-under}
 use Rattle.arithmetic.specs.Laws.Compare.{left-ratio, right-ratio}
 
 whole-left : (f : Format) (x y : Float) → Whole f (num x) (den x) → Whole f (num x * den y) (den x * den y)
@@ -82,7 +82,7 @@ module _ (f : Format) (k c c' : ℕ) (C : 0 < c) (C' : 0 < c') (s t : Bool) (a b
       let big : sum f s a' t b' c' ≡ summed f s a' t b' c' (Bool·beq s t) (ltb a b) (ltb b a) = sum-is f s a' t b' c' ∙ rw (ltb-ratio c (2 ^ k * c') C Q a b a' b' e g, ltb-ratio c (2 ^ k * c') C Q b a b' a' g e) in
       rw (sum-is f s a t b c, big) (summed-times (Bool·beq s t) (ltb a b) (ltb b a) W Z (subst (λ (z : Float). T (finite z)) big h))
 
-pub add-is : (f : Format) (x y : Float) → T (finite x) → T (finite y) → add f x y ≡ sum f (minus? x) (num x * den y) (minus? y) (num y * den x) (den x * den y)
+pub add-is : (f : Format) (x y : Float) → T (finite x) → T (finite y) → add f x y ≡ sum f (isSignMinus x) (num x * den y) (isSignMinus y) (num y * den x) (den x * den y)
 unfolding add
 add-is f nan y p q = absurd p
 add-is f (inf s) y p q = absurd p
@@ -93,9 +93,9 @@ add-is f (fin s m e) (fin t n d) p q = refl
 -- ---- the laws. x and y are values of the format; x' and y' need not be said to be
 pub add-times : (f : Format) (k : ℕ) (x y x' y' : Float) → T (fits f x) → T (fits f y) → Times k x x' → Times k y y' → T (finite (add f x' y')) → Times k (add f x y) (add f x' y')
 add-times f k x y x' y' F G h g t =
-    let big : add f x' y' ≡ sum f (minus? x) (num x' * den y') (minus? y) (num y' * den x') (den x' * den y') = add-is f x' y' (h .finite-r) (g .finite-r) ∙ rw (h .sign, g .sign) in
+    let big : add f x' y' ≡ sum f (isSignMinus x) (num x' * den y') (isSignMinus y) (num y' * den x') (den x' * den y') = add-is f x' y' (h .finite-r) (g .finite-r) ∙ rw (h .sign, g .sign) in
     rw (add-is f x y (h .finite-l) (g .finite-l), big)
-    (sum-times f k (den x * den y) (den x' * den y') (mul-pos (den-pos x) (den-pos y)) (mul-pos (den-pos x') (den-pos y')) (minus? x) (minus? y) (num x * den y) (num y * den x) (num x' * den y') (num y' * den x')
+    (sum-times f k (den x * den y) (den x' * den y') (mul-pos (den-pos x) (den-pos y)) (mul-pos (den-pos x') (den-pos y')) (isSignMinus x) (isSignMinus y) (num x * den y) (num y * den x) (num x' * den y') (num y' * den x')
     (left-ratio k x y x' y' h) (right-ratio k x y x' y' g) (whole-left f x y (whole f x F (h .finite-l))) (whole-right f x y (whole f y G (g .finite-l)))
     (subst (λ (z : Float). T (finite z)) big t))
 
@@ -119,7 +119,7 @@ module _ (f : Format) (a b c : ℕ) (A : (n : ℕ) → n ≤ a → grid f n c < 
 part-le : (n nx dx dy c : ℕ) → c ≡ dx * dy → n ≤ nx * dy → n * dx ≤ nx * c
 part-le n nx dx dy c e h = le-trans (mul-le-mul-right dx h) (le-of-eq (mul-assoc nx dy dx ∙ ap (λ (z : ℕ). nx * z) (mul-comm dy dx ∙ sym e)))
 
-pub sub-finite : (f : Format) (x y : Float) → T (fits f x) → T (fits f y) → T (finite x) → T (finite y) → minus? x ≡ false → minus? y ≡ false → T (finite (sub f x y))
+pub sub-finite : (f : Format) (x y : Float) → T (fits f x) → T (fits f y) → T (finite x) → T (finite y) → isSignMinus x ≡ false → isSignMinus y ≡ false → T (finite (sub f x y))
 unfolding sub
 sub-finite f x y F G p q s t =
     let c = den x * den y in

@@ -7,14 +7,14 @@ use lib.Ieee.{Float, nan, inf, fin, neg}
 use lib.Ieee.Exact.{HasValue}
 use lib.Ieee.Scale.{finite}
 use lib.Ieee.Positive.{num, den, den-pos, positive, positive-finite, own-value}
-use Rattle.arithmetic.specs.Basic.{minus?}
+use Rattle.arithmetic.specs.Basic.{isSignMinus}
 use Rattle.arithmetic.specs.Laws.Ratio.{same-fraction, scaled-cross}
 
 -- As fractions, num y / den y = num x / den x * 2 ^ k. A zero is 2 ^ k times a zero of its sign, and of nothing else.
 pub record Times (k : ℕ) (x y : Float) : Type 0 where
   pub finite-l : T (finite x)
   pub finite-r : T (finite y)
-  pub sign : minus? y ≡ minus? x
+  pub sign : isSignMinus y ≡ isSignMinus x
   pub value : num y * den x ≡ num x * 2 ^ k * den y
 
 -- ---- from the fractions that two values equal
@@ -23,7 +23,7 @@ cross nan s a c h = absurd h
 cross (inf t) s a c h = absurd h
 cross (fin t m e) s a c h = h .1
 
-pub has-sign : (x : Float) (s : Bool) (a c : ℕ) → HasValue x s a c → minus? x ≡ s
+pub has-sign : (x : Float) (s : Bool) (a c : ℕ) → HasValue x s a c → isSignMinus x ≡ s
 has-sign nan s a c h = absurd h
 has-sign (inf t) s a c h = absurd h
 has-sign (fin t m e) s a c h = h .0
@@ -33,12 +33,12 @@ has-finite nan s a c h = absurd h
 has-finite (inf t) s a c h = absurd h
 has-finite (fin t m e) s a c h = tt
 
-pub of-cross : (x : Float) (s : Bool) (a c : ℕ) → T (finite x) → minus? x ≡ s → num x * c ≡ a * den x → HasValue x s a c
+pub of-cross : (x : Float) (s : Bool) (a c : ℕ) → T (finite x) → isSignMinus x ≡ s → num x * c ≡ a * den x → HasValue x s a c
 of-cross nan s a c p e h = absurd p
 of-cross (inf t) s a c p e h = absurd p
 of-cross (fin t m e) s a c p d h = (d, h)
 
-pub positive-sign : (x : Float) → T (positive x) → minus? x ≡ false
+pub positive-sign : (x : Float) → T (positive x) → isSignMinus x ≡ false
 positive-sign x p = has-sign x false (num x) (den x) (own-value x p)
 
 pub positive-value : (x : Float) (a c : ℕ) → T (positive x) → num x * c ≡ a * den x → HasValue x false a c
@@ -67,7 +67,7 @@ neg-finite nan h = h
 neg-finite (inf s) h = h
 neg-finite (fin s m e) h = h
 
-pub neg-sign : (x : Float) → T (finite x) → minus? (neg x) ≡ not (minus? x)
+pub neg-sign : (x : Float) → T (finite x) → isSignMinus (neg x) ≡ not (isSignMinus x)
 unfolding neg
 neg-sign nan h = absurd h
 neg-sign (inf s) h = refl

@@ -1,8 +1,8 @@
 -- One evaluation is allowed, so its value is there. Assumes nothing.
 use borrow.Author.Needs.{needs}
 use mathlib.Core.Path.{sym, ap, _∙_}
-use Rattle.explicit_black.specs.Meanings.{survivalEvaluated}
-use Rattle.explicit_black.specs.LawsCounted.{first-value, first-spent}
+use Rattle.explicit_black.specs.Internal.Searches.{viewSurvivalEvaluation}
+use Rattle.explicit_black.specs.Laws.Counted.{first-value, first-spent}
 use Rattle.exports.proofs.quoter_inverse_gaussian_survival.Statement.{statement}
 use Rattle.exports.proofs.quoter_inverse_gaussian_survival.Tie as tie
 
@@ -10,13 +10,13 @@ returns : tie.Need-returns
 returns c =
     let at-curve = c .before .before .before in
     let start = at-curve .before .before in
-    first-value _ (at-curve .before .new .ensures) (sym (ap (survivalEvaluated (start .args .x)) (c .before .survival .given .1)) ∙ at-curve .inverse-gaussian-survival .ensures)
+    first-value _ (at-curve .before .new .ensures) (sym (ap (viewSurvivalEvaluation (start .args .x)) (c .before .survival .given .1)) ∙ at-curve .inverse-gaussian-survival .ensures)
 
 returns-2 : tie.Need-returns-2
 returns-2 c =
     let at-curve = c .before .before in
     let start = at-curve .before .before in
-    absurd (first-spent _ (at-curve .before .new .ensures) (sym (ap (survivalEvaluated (start .args .x)) (c .enum-told .given .1)) ∙ at-curve .inverse-gaussian-survival .ensures))
+    absurd (first-spent _ (at-curve .before .new .ensures) (sym (ap (viewSurvivalEvaluation (start .args .x)) (c .enum-told .given .1)) ∙ at-curve .inverse-gaussian-survival .ensures))
 
 pub quoter-inverse-gaussian-survival-spec : {M : Type 1} → statement M
 quoter-inverse-gaussian-survival-spec =

@@ -1,6 +1,6 @@
 -- By whether the line had room. Assumes nothing.
 use mathlib.Core.Path.{sym, _∙_}
-use Rattle.exports.proofs.Lining.{line-put, line-not-put}
+use Rattle.exports.proofs.SheetLine.{line-put, line-not-put}
 use borrow.Author.Needs.{needs}
 use Rattle.exports.proofs.quoter_sheet_line.Statement.{statement}
 use Rattle.exports.proofs.quoter_sheet_line.Tie as tie

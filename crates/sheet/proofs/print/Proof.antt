@@ -5,7 +5,7 @@ use native.Mathlib.Omega.{arith}
 use lib.ListN.{length}
 use lib.Seq.{length-take-le}
 use Rattle.xdr_sheet.specs.Printing.{left}
-use Rattle.xdr_sheet.specs.LawsPrinting.{fill-within, fill-falls}
+use Rattle.xdr_sheet.specs.Laws.Printing.{fill-within, fill-falls}
 use borrow.Author.Needs.{needs}
 use Rattle.sheet.proofs.print.Statement.{statement}
 use Rattle.sheet.proofs.print.Tie as tie

@@ -4,7 +4,7 @@ use mathlib.Core.Bool.{Bool, false, cond}
 use lib.Dec.{T}
 use lib.Ieee.{binary64, fits, isNan, neg}
 use Rattle.arithmetic.specs.Operations.{one}
-use Rattle.arithmetic.specs.Basic.{minus?, signum}
+use Rattle.arithmetic.specs.Basic.{isSignMinus, signum}
 use Rattle.arithmetic.specs.Laws.Compare.{is-no-nan}
 use Rattle.arithmetic.specs.Laws.Signs.{is-nan, has-bits, signum-is, sign-clear, sign-set}
 use Rattle.arithmetic.proofs.basic.signum.Statement.{statement}
@@ -16,7 +16,7 @@ held c = subst T (sym (c .good .0 .1)) tt
 no-nan : (c : tie.Else1) → isNan (c .before .args .x) ≡ false
 no-nan c = is-no-nan (c .before .args .x) (c .if1 .left)
 
-signed : (c : tie.Else1) → signum (c .before .args .x) ≡ cond (minus? (c .before .args .x)) (neg one) one
+signed : (c : tie.Else1) → signum (c .before .args .x) ≡ cond (isSignMinus (c .before .args .x)) (neg one) one
 signed c = signum-is (c .before .args .x) (no-nan c)
 
 returns : tie.Need-returns

@@ -4,7 +4,7 @@ use mathlib.Core.Bool.{not}
 use lib.Dec.{T}
 use lib.Ieee.{binary64, fits, isNan, toBits}
 use Rattle.arithmetic.specs.Laws.Signs.{has-bits}
-use Rattle.arithmetic.proofs.Truncating.{trunc-of-nan, trunc-zero, zero-no-nan, trunc-cleared, cleared-no-nan, trunc-whole}
+use Rattle.arithmetic.proofs.Trunc.{trunc-of-nan, trunc-zero, zero-no-nan, trunc-cleared, cleared-no-nan, trunc-whole}
 use borrow.Author.Needs.{needs}
 use Rattle.arithmetic.proofs.basic.trunc.Statement.{statement}
 use Rattle.arithmetic.proofs.basic.trunc.Tie as tie

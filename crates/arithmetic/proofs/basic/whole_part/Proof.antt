@@ -4,7 +4,7 @@ use lib.Bits.{mask-lt}
 use native.Mathlib.Nat.{lt-of-lt-of-le}
 use lib.Dec.{T, lit≤}
 use lib.Ieee.{binary64, fits, toBits}
-use Rattle.arithmetic.proofs.Truncating.{below-the-unit, at-the-unit, above-the-unit}
+use Rattle.arithmetic.proofs.Trunc.{below-the-unit, at-the-unit, above-the-unit}
 use native.Mathlib.Omega.{arith}
 use borrow.Author.Needs.{needs}
 use Rattle.arithmetic.proofs.basic.whole_part.Statement.{statement}

@@ -6,12 +6,12 @@ use native.Mathlib.Nat.{le-trans, lt-of-le-of-lt}
 use lib.Dec.{T, leb, lit≤, lit<}
 use lib.Ieee.{Float, binary64, minus, round, fits, isNan, nanBits, toBits}
 use lib.Ieee.Compare.{differs-from-itself}
-use Rattle.arithmetic.specs.Basic.{minus?}
-use Rattle.arithmetic.specs.Exp.{reduced, scaled, exp}
+use Rattle.arithmetic.specs.Basic.{isSignMinus}
+use Rattle.arithmetic.specs.Exp.{reduced, scaleB, exp}
 use Rattle.arithmetic.specs.Laws.Numbers.{false-not}
 use Rattle.arithmetic.specs.Laws.Compare.{finite-no-nan, is-no-nan}
 use Rattle.arithmetic.specs.Laws.Signs.{has-bits, sign-bit}
-use Rattle.arithmetic.proofs.Exponential.{Known, known, most, most-le, part-le, place-lt, exp-nan, exp-over, exp-under, exp-is}
+use Rattle.arithmetic.proofs.ExpGeneral.{Known, known, most, most-le, part-le, place-lt, exp-nan, exp-over, exp-under, exp-is}
 use Rattle.arithmetic.proofs.exp.general.Statement.{statement}
 use Rattle.arithmetic.proofs.exp.general.Tie as tie
 
@@ -28,7 +28,7 @@ arg c = c .before .before .before .args .x
 abbrev negative : tie.Else3 → Bool
 negative c = leb (2 ^ 63) (toBits binary64 (arg c))
 
-sign : (c : tie.Else3) → negative c ≡ minus? (arg c)
+sign : (c : tie.Else3) → negative c ≡ isSignMinus (arg c)
 sign c = sym (sign-bit (arg c) (held (c .before .before .before)) (number (c .before .before)))
 
 facts : (c : tie.After-half-away) → Known (negative (c .before)) (c .half-away .result)
@@ -61,29 +61,29 @@ float-to-bits-negative c = has-bits (arg c) (c .before .before .if1 .left)
 whole-part-requires : tie.Need-whole-part-requires
 whole-part-requires c κs = false-not (isNan (c .half-away .result)) (finite-no-nan (c .half-away .result) (facts c .is-finite))
 
-signed-requires : tie.Need-signed-requires
-signed-requires c κs = le-trans (few c) (lit≤ tt)
+signed-integer-requires : tie.Need-signed-integer-requires
+signed-integer-requires c κs = le-trans (few c) (lit≤ tt)
 
-exponent-requires : tie.Need-exponent-requires
-exponent-requires c κs = lt-of-le-of-lt (few (c .before .before)) (lit< tt)
+biased-exponent-requires : tie.Need-biased-exponent-requires
+biased-exponent-requires c κs = lt-of-le-of-lt (few (c .before .before)) (lit< tt)
 
-scale-requires : tie.Need-scale-requires
-scale-requires c κs =
+scale-b-requires : tie.Need-scale-b-requires
+scale-b-requires c κs =
     let a = c .before .before .before in
-    subst (λ (e : ℕ). e < 2100) (sym (c .exponent .ensures)) (place-lt (negative (a .before .before)) (a .whole-part .result) (bound a))
+    subst (λ (e : ℕ). e < 2100) (sym (c .biased-exponent .ensures)) (place-lt (negative (a .before .before)) (a .whole-part .result) (bound a))
 
 returns-4 : tie.Need-returns-4
 returns-4 c =
     let a = c .before .before .before .before in
     let d = a .before .before in
     let n = a .whole-part .result in
-    c .scale .ensures
-    ∙ ap (λ (y : Float). scaled y (minus (c .before .exponent .result) 1075)) (c .before .before .reduced .ensures ∙ ap (reduced (arg d)) (c .before .before .before .signed .ensures))
-    ∙ ap (λ (e : ℕ). scaled (reduced (arg d) (round binary64 (negative d) n 1)) (minus e 1075)) (c .before .exponent .ensures)
+    c .scale-b .ensures
+    ∙ ap (λ (y : Float). scaleB y (minus (c .before .biased-exponent .result) 1075)) (c .before .before .reduced .ensures ∙ ap (reduced (arg d)) (c .before .before .before .signed-integer .ensures))
+    ∙ ap (λ (e : ℕ). scaleB (reduced (arg d) (round binary64 (negative d) n 1)) (minus e 1075)) (c .before .biased-exponent .ensures)
     ∙ exp-is (arg d) (number (d .before .before)) (d .before .if2 .left) (d .if3 .left) (negative d) (a .before .half-away .result) n (sign d) (a .before .half-away .ensures) (a .whole-part .ensures)
 
 pub general-spec : {M : Type 1} → statement M
 general-spec =
     tie.close
     (tie.spec returns float-from-bits-result returns-2 returns-3 float-to-bits-negative (λ c κs. tt)
-    whole-part-requires signed-requires (λ c κs. tt) exponent-requires scale-requires returns-4)
+    whole-part-requires signed-integer-requires (λ c κs. tt) biased-exponent-requires scale-b-requires returns-4)

@@ -18,8 +18,8 @@ float-from-bits-if3 : tie.Need-float-from-bits-if3
 unfolding nanBits
 float-from-bits-if3 c = tt
 
-split-requires : tie.Need-split-requires
-split-requires c κs = above (c .before .before .before .args .x) (c .before .before .if1 .left) (c .before .if2 .left) (c .if3 .taken)
+decompose-requires : tie.Need-decompose-requires
+decompose-requires c κs = above (c .before .before .before .args .x) (c .before .before .if1 .left) (c .before .if2 .left) (c .if3 .taken)
 
 returns-3 : tie.Need-returns-3
 returns-3 c =
@@ -27,7 +27,7 @@ returns-3 c =
     let z = d .before .before .if1 .left in
     let l = d .before .if2 .left in
     let x = d .before .before .before .args .x in
-    ln-parts x _ _ _ z l (above x z l (d .if3 .taken)) (c .before .before .before .split .ensures) (c .series .ensures)
+    ln-parts x _ _ _ z l (above x z l (d .if3 .taken)) (c .before .before .before .decompose .ensures) (c .series .ensures)
 
 returns-4 : tie.Need-returns-4
 returns-4 c = ln-itself (c .before .before .before .args .x) (c .before .before .if1 .left) (c .before .if2 .left) (c .if3 .left)
@@ -35,5 +35,5 @@ returns-4 c = ln-itself (c .before .before .before .args .x) (c .before .before 
 pub ln-spec : {M : Type 1} → statement M
 ln-spec =
     tie.close
-    (tie.spec float-from-bits-result returns returns-2 float-from-bits-if3 split-requires (λ c κs. tt) returns-3
+    (tie.spec float-from-bits-result returns returns-2 float-from-bits-if3 decompose-requires (λ c κs. tt) returns-3
     returns-4)

@@ -11,15 +11,15 @@ returns c =
     let d = c .before in
     c .series .ensures ∙ ln1p-low (d .before .before .before .args .u) (d .before .before .if1 .taken) (d .before .if2 .taken) (d .if3 .taken)
 
-split-requires : tie.Need-split-requires
-split-requires c κs = sum-positive (c .before .before .before .args .u) (c .before .if2 .taken) (c .if3 .left)
+decompose-requires : tie.Need-decompose-requires
+decompose-requires c κs = sum-positive (c .before .before .before .args .u) (c .before .if2 .taken) (c .if3 .left)
 
 returns-2 : tie.Need-returns-2
 unfolding ofBits neg
 returns-2 c =
     let d = c .before .before .before .before in
     ln1p-high (d .before .before .before .args .u) _ _ _ (d .before .before .if1 .taken) (d .before .if2 .taken) (d .if3 .left)
-    (c .before .before .before .split .ensures) (c .series2 .ensures)
+    (c .before .before .before .decompose .ensures) (c .series2 .ensures)
 
 returns-3 : tie.Need-returns-3
 unfolding ofBits neg
@@ -30,4 +30,4 @@ unfolding ofBits neg
 returns-4 c = ln1p-under (c .before .args .u) (c .if1 .left)
 
 pub ln-1p-spec : {M : Type 1} → statement M
-ln-1p-spec = tie.close (tie.spec (λ c κs. tt) returns split-requires (λ c κs. tt) returns-2 returns-3 returns-4)
+ln-1p-spec = tie.close (tie.spec (λ c κs. tt) returns decompose-requires (λ c κs. tt) returns-2 returns-3 returns-4)

@@ -3,9 +3,9 @@ use mathlib.Core.Path.{sym, subst}
 use Prim.Native.Nat.{ℕ, _-_, _*_, _^_, _<_}
 use native.Mathlib.Nat.{le-refl, lt-of-lt-of-le}
 use lib.Dec.{lit≤}
-use Rattle.arithmetic.specs.Words.{val}
+use Rattle.arithmetic.specs.Internal.Pair.{val}
 use Rattle.arithmetic.proofs.Pairs.{flat}
-use Rattle.arithmetic.proofs.Aligning.{shift-lt, near-above, far-above, near-below, far-below}
+use Rattle.arithmetic.proofs.MulAddAlign.{shift-lt, near-above, far-above, near-below, far-below}
 use borrow.Author.Needs.{needs}
 use Rattle.arithmetic.proofs.mul_add.align.Statement.{statement}
 use Rattle.arithmetic.proofs.mul_add.align.Tie as tie

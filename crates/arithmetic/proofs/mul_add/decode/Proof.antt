@@ -6,7 +6,7 @@ use lib.Bits.{mask-lt}
 use lib.Ieee.{binary64, fits, toBits}
 use Rattle.arithmetic.specs.Laws.Numbers.{false-not}
 use Rattle.arithmetic.specs.Laws.Compare.{finite-no-nan}
-use Rattle.arithmetic.proofs.Decoding.{decoded-zero, decoded-more}
+use Rattle.arithmetic.proofs.MulAddDecode.{decoded-zero, decoded-more}
 use borrow.Author.Needs.{needs}
 use Rattle.arithmetic.proofs.mul_add.decode.Statement.{statement}
 use Rattle.arithmetic.proofs.mul_add.decode.Tie as tie

@@ -8,7 +8,7 @@ use lib.Dec.{T}
 use lib.Ieee.{binary64, sum, unlike}
 use lib.Ieee.Scale.{finite}
 use Rattle.arithmetic.specs.Laws.Numbers.{mul-lt-pow}
-use Rattle.arithmetic.proofs.Fusing.{first-special, second-special, third-special, in-parts}
+use Rattle.arithmetic.proofs.MulAddOperands.{first-special, second-special, third-special, in-parts}
 use borrow.Author.Needs.{needs}
 use Rattle.arithmetic.proofs.mul_add.mul_add.Statement.{statement}
 use Rattle.arithmetic.proofs.mul_add.mul_add.Tie as tie
@@ -47,7 +47,7 @@ align-requires c κs =
     let u = w .before .before .decode .ensures in
     let v = w .before .decode2 .ensures in
     let b = w .decode3 .ensures in
-    let e = c .before .exponent .ensures in
+    let e = c .before .product-exponent .ensures in
     record {
       product-small = subst (λ (x : ℕ). x < 2 ^ 106) (sym (p .product .ensures)) (mul-lt-pow 53 53 (u .small) (v .small));
       addend-small = b .small;
@@ -72,10 +72,10 @@ returns c =
     let z = w .decode3 .result in
     let s = unlike (x .negative) (y .negative) in
     let m = z .m * 2 ^ (z .j + 1074) in
-    c .total .ensures
+    c .sum-terms .ensures
     ∙ sym (l .align .ensures .same s (z .negative))
-    ∙ ap (λ (n : ℕ). sum binary64 s (n * 2 ^ e .exponent .result) (z .negative) m (2 ^ 2148)) (p .product .ensures)
-    ∙ ap (λ (n : ℕ). sum binary64 s n (z .negative) m (2 ^ 2148)) (e .exponent .ensures .value)
+    ∙ ap (λ (n : ℕ). sum binary64 s (n * 2 ^ e .product-exponent .result) (z .negative) m (2 ^ 2148)) (p .product .ensures)
+    ∙ ap (λ (n : ℕ). sum binary64 s n (z .negative) m (2 ^ 2148)) (e .product-exponent .ensures .value)
     ∙ sym (in-parts (a .x) (a .a) (a .b) (x .negative) (y .negative) (z .negative) (x .m) (x .j) (y .m) (y .j) (z .m) (z .j) (u .decode .ensures .value) (v .decode2 .ensures .value) (w .decode3 .ensures .value))
 
 returns-2 : tie.Need-returns-2

@@ -4,7 +4,7 @@ use Prim.Native.Nat.{ℕ, _*_, _^_, _<_}
 use native.Mathlib.Nat.{lt-of-lt-of-le, lt-of-le-of-lt, div-mul-le-self, div-eq-of-lt, zero-mul}
 use lib.Pow.{pow-mono}
 use borrow.Author.Needs.{needs}
-use Rattle.arithmetic.specs.Words.{val}
+use Rattle.arithmetic.specs.Internal.Pair.{val}
 use Rattle.arithmetic.proofs.Pairs.{val-lt}
 use Rattle.arithmetic.proofs.pair.cleared.Statement.{statement}
 use Rattle.arithmetic.proofs.pair.cleared.Tie as tie

@@ -4,7 +4,7 @@ use Prim.Native.Nat.{ℕ, _+_, _*_, _/_, _^_, _≤_, _<_}
 use native.Mathlib.Nat.{lt-of-le-of-lt}
 use borrow.Author.Needs.{needs}
 use borrow.Author.Tests.{ltb-true, ltb-false}
-use Rattle.arithmetic.specs.Words.{val}
+use Rattle.arithmetic.specs.Internal.Pair.{val}
 use Rattle.arithmetic.proofs.Pairs.{val-lt, twice-le, jam-room, jam-some, jam-none}
 use Rattle.arithmetic.proofs.pair.jam.Statement.{statement}
 use Rattle.arithmetic.proofs.pair.jam.Tie as tie

@@ -2,7 +2,7 @@
 use Prim.Native.Nat.{_-_, _*_, _≤_, _<_}
 use mathlib.Core.Logic.{⊎-elim}
 use native.Mathlib.Omega.{arith}
-use Rattle.arithmetic.proofs.RootDigits.{Upper, small, upper-none, next-0, next-1, up, stay, closest-of}
+use Rattle.arithmetic.proofs.SqrtDigits.{Upper, small, upper-none, next-0, next-1, up, stay, closest-of}
 use Rattle.arithmetic.proofs.sqrt.by_digits.Statement.{statement}
 use Rattle.arithmetic.proofs.sqrt.by_digits.Tie as tie
 

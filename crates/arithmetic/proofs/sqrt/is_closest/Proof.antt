@@ -4,7 +4,7 @@ use native.Mathlib.Nat.{mul-le-mul}
 use native.Mathlib.Omega.{arith}
 use borrow.Author.Needs.{needs}
 use lib.Dec.{leb→le}
-use Rattle.arithmetic.proofs.RootDigits.{tested, closest-of}
+use Rattle.arithmetic.proofs.SqrtDigits.{tested, closest-of}
 use Rattle.arithmetic.proofs.sqrt.is_closest.Statement.{statement}
 use Rattle.arithmetic.proofs.sqrt.is_closest.Tie as tie
 

@@ -9,7 +9,7 @@ use lib.Ieee.Bits.{ofBits-toBits}
 use Rattle.arithmetic.specs.Sqrt.{sqrt}
 use Rattle.arithmetic.specs.Laws.Compare.{equal-no-nan}
 use Rattle.arithmetic.specs.Laws.Patterns.{built-no-nan}
-use Rattle.arithmetic.proofs.RootDigits.{Closest}
+use Rattle.arithmetic.proofs.SqrtDigits.{Closest}
 use Rattle.arithmetic.proofs.SqrtPaths.{pattern-at}
 use native.Mathlib.Omega.{arith}
 use borrow.Author.Needs.{needs}

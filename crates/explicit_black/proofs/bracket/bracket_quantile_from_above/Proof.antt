@@ -3,16 +3,16 @@
 use borrow.Author.Needs.{needs}
 use mathlib.Core.Path.{sym, ap, _∙_}
 use Rattle.explicit_black.specs.Counted.{limited}
-use Rattle.explicit_black.specs.Bracket.{halvings, halving, bracketQuantileFromAbove}
-use Rattle.explicit_black.specs.Meanings.{evaluated, widening}
-use Rattle.explicit_black.specs.LawsCounted.{Carried, carried, carried-at, carried-turn, carried-spent, carried-stop, some-spent, some-have, fewer}
-use Rattle.explicit_black.proofs.Halving.{ends-above}
+use Rattle.explicit_black.specs.Bracket.{halvings, halvingLoop, bracketQuantileFromAbove}
+use Rattle.explicit_black.specs.Internal.Searches.{viewEvaluation, viewWidening}
+use Rattle.explicit_black.specs.Laws.Counted.{Carried, carried, carried-at, carried-turn, carried-spent, carried-stop, some-spent, some-have, fewer}
+use Rattle.explicit_black.proofs.HalvingEnds.{ends-above}
 use Rattle.explicit_black.proofs.bracket.bracket_quantile_from_above.Statement.{statement}
 use Rattle.explicit_black.proofs.bracket.bracket_quantile_from_above.Tie as tie
 
 abbrev Inv-loop : tie.InvT-loop
 Inv-loop initial mu probability trial₀ left₀ trial left =
-    Carried (halving mu probability) halvings (limited (left₀ .left) (bracketQuantileFromAbove initial mu probability)) (left .left) (widening trial)
+    Carried (halvingLoop mu probability) halvings (limited (left₀ .left) (bracketQuantileFromAbove initial mu probability)) (left .left) (viewWidening trial)
 
 abbrev μ-loop : tie.MeasureT-loop
 μ-loop initial mu probability trial₀ left₀ trial left = left .left
@@ -25,28 +25,28 @@ loop-holds c =
     (carried (ends-above (start .args .mu) (start .args .probability) (start .args .initial) (start .pre) (start .good .0 .1)))
 
 returns : tie.Need-returns Inv-loop μ-loop
-returns c = some-have _ _ _ _ (sym (carried-stop (carried-at (c .before .before .before .loop .inv) (ap widening (c .before .trial .given .1)))))
+returns c = some-have _ _ _ _ (sym (carried-stop (carried-at (c .before .before .before .loop .inv) (ap viewWidening (c .before .trial .given .1)))))
 
 returns-2 : tie.Need-returns-2 Inv-loop μ-loop
 returns-2 c =
     let at-cdf = c .before .before in
     let at-trial = at-cdf .before .before in
     some-spent _ _
-    (carried-spent _ (carried-at (at-trial .before .before .loop .inv) (ap widening (at-trial .trial2 .given .1)))
-    (sym (ap evaluated (c .enum-told .given .1)) ∙ at-cdf .inverse-gaussian-cdf .ensures))
+    (carried-spent _ (carried-at (at-trial .before .before .loop .inv) (ap viewWidening (at-trial .trial2 .given .1)))
+    (sym (ap viewEvaluation (c .enum-told .given .1)) ∙ at-cdf .inverse-gaussian-cdf .ensures))
 
 loop-less : tie.Need-loop-less Inv-loop μ-loop
 loop-less c =
     let at-value = c .before .before in
-    fewer _ (sym (ap evaluated (at-value .cdf .given .1)) ∙ at-value .before .before .inverse-gaussian-cdf .ensures)
+    fewer _ (sym (ap viewEvaluation (at-value .cdf .given .1)) ∙ at-value .before .before .inverse-gaussian-cdf .ensures)
 
 loop-again : tie.Need-loop-again Inv-loop μ-loop
 loop-again c =
     let at-value = c .before .before in
     let at-cdf = at-value .before .before in
     let at-trial = at-cdf .before .before in
-    carried-turn _ (carried-at (at-trial .before .before .loop .inv) (ap widening (at-trial .trial2 .given .1)))
-    (sym (ap evaluated (at-value .cdf .given .1)) ∙ at-cdf .inverse-gaussian-cdf .ensures) (sym (c .lowered .ensures))
+    carried-turn _ (carried-at (at-trial .before .before .loop .inv) (ap viewWidening (at-trial .trial2 .given .1)))
+    (sym (ap viewEvaluation (at-value .cdf .given .1)) ∙ at-cdf .inverse-gaussian-cdf .ensures) (sym (c .lowered .ensures))
 
 pub bracket-quantile-from-above-spec : {M : Type 1} → statement M
 bracket-quantile-from-above-spec =

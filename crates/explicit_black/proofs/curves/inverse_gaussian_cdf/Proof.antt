@@ -1,8 +1,8 @@
 -- `curves::inverse_gaussian_cdf` meets its contract. Assumes nothing.
 use borrow.Author.Needs.{needs}
-use Rattle.special_function.specs.LawsShared.{pdf-of-square}
+use Rattle.special_function.specs.Laws.SharedExponential.{pdf-of-square}
 use Rattle.explicit_black.specs.Curves.{inverseGaussianCdf, inverseGaussianPdf}
-use Rattle.explicit_black.specs.LawsCounted.{tick-some, tick-none}
+use Rattle.explicit_black.specs.Laws.Counted.{tick-some, tick-none}
 use Rattle.explicit_black.proofs.curves.inverse_gaussian_cdf.Statement.{statement}
 use Rattle.explicit_black.proofs.curves.inverse_gaussian_cdf.Tie as tie
 

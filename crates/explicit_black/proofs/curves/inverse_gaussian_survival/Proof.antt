@@ -5,7 +5,7 @@ use lib.Ieee.{binary64}
 use Rattle.arithmetic.specs.Sqrt.{sqrt}
 use Rattle.arithmetic.specs.Laws.Identities.{div-neg}
 use Rattle.explicit_black.specs.Curves.{inverseGaussianSurvival, inverseGaussianPdf}
-use Rattle.explicit_black.specs.LawsCounted.{tick-some, tick-none}
+use Rattle.explicit_black.specs.Laws.Counted.{tick-some, tick-none}
 use Rattle.explicit_black.proofs.curves.inverse_gaussian_survival.Statement.{statement}
 use Rattle.explicit_black.proofs.curves.inverse_gaussian_survival.Tie as tie
 

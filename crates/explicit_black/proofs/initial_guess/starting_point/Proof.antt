@@ -6,11 +6,11 @@ use Rattle.explicit_black.proofs.initial_guess.starting_point.Tie as ti
 
 returns : tie.Need-returns
 unfolding startingPoint
-returns c = rw (sym (c .before .is-proper .ensures) ∙ c .if1 .taken)
+returns c = rw (sym (c .before .is-finite-positive .ensures) ∙ c .if1 .taken)
 
 returns-2 : tie.Need-returns-2
 unfolding startingPoint
-returns-2 c = rw (sym (c .before .is-proper .ensures) ∙ c .if1 .left)
+returns-2 c = rw (sym (c .before .is-finite-positive .ensures) ∙ c .if1 .left)
 
 pub starting-point-spec : {M : Type 1} → statement M
 starting-point-spec = tie.close (tie.spec (λ c κs. tt) returns returns-2)

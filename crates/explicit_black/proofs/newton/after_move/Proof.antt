@@ -6,15 +6,15 @@ use Rattle.explicit_black.proofs.newton.after_move.Tie as tie
 
 returns : tie.Need-returns
 unfolding afterMove
-returns c = rw (sym (c .before .before .before .is-proper .ensures) ∙ c .before .before .if1 .taken, sym (c .before .is-converged .ensures) ∙ c .if2 .taken)
+returns c = rw (sym (c .before .before .before .is-finite-positive .ensures) ∙ c .before .before .if1 .taken, sym (c .before .is-converged .ensures) ∙ c .if2 .taken)
 
 returns-2 : tie.Need-returns-2
 unfolding afterMove
-returns-2 c = rw (sym (c .before .before .before .is-proper .ensures) ∙ c .before .before .if1 .taken, sym (c .before .is-converged .ensures) ∙ c .if2 .left)
+returns-2 c = rw (sym (c .before .before .before .is-finite-positive .ensures) ∙ c .before .before .if1 .taken, sym (c .before .is-converged .ensures) ∙ c .if2 .left)
 
 returns-3 : tie.Need-returns-3
 unfolding afterMove
-returns-3 c = rw (sym (c .before .is-proper .ensures) ∙ c .if1 .left)
+returns-3 c = rw (sym (c .before .is-finite-positive .ensures) ∙ c .if1 .left)
 
 pub after-move-spec : {M : Type 1} → statement M
 after-move-spec = tie.close (tie.spec (λ c κs. tt) (λ c κs. tt) returns returns-2 returns-3)

@@ -5,16 +5,16 @@ use mathlib.Core.Path.{refl, sym, ap, _∙_}
 use Prim.Native.Nat.{_+_, _-_, _≤_}
 use native.Mathlib.Omega.{arith}
 use Rattle.explicit_black.specs.Counted.{limited}
-use Rattle.explicit_black.specs.Newton.{newtoning, steps}
-use Rattle.explicit_black.specs.Meanings.{evaluated, stepped}
-use Rattle.explicit_black.specs.LawsCounted.{Left, left-at, left-spent, left-stop}
+use Rattle.explicit_black.specs.Newton.{newtonLoop, steps}
+use Rattle.explicit_black.specs.Internal.Searches.{viewEvaluation, viewStepped}
+use Rattle.explicit_black.specs.Laws.Counted.{Left, left-at, left-spent, left-stop}
 use Rattle.explicit_black.proofs.Searches.{step-turn, left-last}
 use Rattle.explicit_black.proofs.newton.steps.Statement.{statement}
 use Rattle.explicit_black.proofs.newton.steps.Tie as tie
 
 abbrev Inv-loop : tie.InvT-loop
 Inv-loop probability log-probability mu left₀ next₀ counter₀ left next counter =
-    Left (newtoning probability log-probability mu) (100 - counter) (limited (left₀ .left) (steps probability log-probability mu (stepped next₀))) (left .left) (stepped next)
+    Left (newtonLoop probability log-probability mu) (100 - counter) (limited (left₀ .left) (steps probability log-probability mu (viewStepped next₀))) (left .left) (viewStepped next)
     × (counter ≤ 100)
 
 abbrev μ-loop : tie.MeasureT-loop
@@ -27,18 +27,18 @@ loop-holds c = (record { same = refl }, omega arith)
 returns : tie.Need-returns Inv-loop μ-loop
 returns c =
     let at-next = c .before in
-    sym (left-stop (left-at (at-next .before .before .before .loop .inv .0) (ap stepped (at-next .next .given .1))))
+    sym (left-stop (left-at (at-next .before .before .before .loop .inv .0) (ap viewStepped (at-next .next .given .1))))
 
 returns-2 : tie.Need-returns-2 Inv-loop μ-loop
-returns-2 c = sym (left-stop (left-at (c .before .before .before .loop .inv .0) (ap stepped (c .enum-told .given .1))))
+returns-2 c = sym (left-stop (left-at (c .before .before .before .loop .inv .0) (ap viewStepped (c .enum-told .given .1))))
 
 returns-3 : tie.Need-returns-3 Inv-loop μ-loop
 returns-3 c =
     let at-cdf = c .before .before in
     let at-next = at-cdf .before .before in
     let at-loop = at-next .before .before .before in
-    left-spent (100 - (at-loop .loop .counter + 1)) _ (left-at (at-loop .loop .inv .0) (ap stepped (at-next .next2 .given .1))) (omega arith)
-    (sym (ap evaluated (c .enum-told2 .given .1)) ∙ at-cdf .inverse-gaussian-cdf .ensures)
+    left-spent (100 - (at-loop .loop .counter + 1)) _ (left-at (at-loop .loop .inv .0) (ap viewStepped (at-next .next2 .given .1))) (omega arith)
+    (sym (ap viewEvaluation (c .enum-told2 .given .1)) ∙ at-cdf .inverse-gaussian-cdf .ensures)
 
 loop-again : tie.Need-loop-again Inv-loop μ-loop
 loop-again c =
@@ -47,8 +47,8 @@ loop-again c =
     let at-cdf = at-value .before .before in
     let at-next = at-cdf .before .before in
     let at-loop = at-next .before .before .before in (
-      step-turn _ _ _ _ _ _ _ (left-at (at-loop .loop .inv .0) (ap stepped (at-next .next2 .given .1))) (omega arith)
-          (sym (ap evaluated (at-value .cdf .given .1)) ∙ at-cdf .inverse-gaussian-cdf .ensures)
+      step-turn _ _ _ _ _ _ _ (left-at (at-loop .loop .inv .0) (ap viewStepped (at-next .next2 .given .1))) (omega arith)
+          (sym (ap viewEvaluation (at-value .cdf .given .1)) ∙ at-cdf .inverse-gaussian-cdf .ensures)
           (at-numerator .numerator .ensures) (c .before .nrstep .ensures) (c .later .ensures),
       omega arith,
     )

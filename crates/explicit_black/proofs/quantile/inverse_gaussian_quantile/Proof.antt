@@ -1,9 +1,9 @@
--- `quantile::inverse_gaussian_quantile` meets its contract. Assumes nothing.
+-- `viewQuantile::inverse_gaussian_quantile` meets its contract. Assumes nothing.
 use borrow.Author.Needs.{needs}
 use mathlib.Core.Path.{sym, ap, _∙_}
 use Rattle.arithmetic.specs.Laws.Numbers.{denied, affirmed}
-use Rattle.explicit_black.specs.Meanings.{quantile}
-use Rattle.explicit_black.proofs.Searches.{solvable-proper, unsolvable, kept, spent-steps, searched}
+use Rattle.explicit_black.specs.Internal.Searches.{viewQuantile}
+use Rattle.explicit_black.proofs.Searches.{solvable-finite-positive, unsolvable, kept, spent-steps, searched}
 use Rattle.explicit_black.proofs.quantile.inverse_gaussian_quantile.Statement.{statement}
 use Rattle.explicit_black.proofs.quantile.inverse_gaussian_quantile.Tie as tie
 
@@ -15,14 +15,14 @@ inverse-gaussian-quantile-bracketed-requires c κs =
     let at-filter = c .before .before .before in
     let at-test = at-filter .before .before in
     let start = at-test .before .before in
-    solvable-proper (start .args .probability) (start .args .mu) (affirmed _ _ (at-test .before .is-solvable .ensures) (at-test .if1 .left))
+    solvable-finite-positive (start .args .probability) (start .args .mu) (affirmed _ _ (at-test .before .is-solvable .ensures) (at-test .if1 .left))
 
 returns-2 : tie.Need-returns-2
 returns-2 c =
     let at-filter = c .before .before .before in
     let at-test = at-filter .before .before in
     kept _ _ _ _ (affirmed _ _ (at-test .before .is-solvable .ensures) (at-test .if1 .left)) (at-filter .before .inverse-gaussian-quantile-actuar .ensures) _ _
-    (sym (ap quantile (c .before .root .given .1)) ∙ at-filter .filtered .ensures)
+    (sym (ap viewQuantile (c .before .root .given .1)) ∙ at-filter .filtered .ensures)
 
 returns-3 : tie.Need-returns-3
 returns-3 c =
@@ -30,14 +30,14 @@ returns-3 c =
     let at-filter = none-left .before .before in
     let at-test = at-filter .before .before in
     searched _ _ _ _ (affirmed _ _ (at-test .before .is-solvable .ensures) (at-test .if1 .left)) (at-filter .before .inverse-gaussian-quantile-actuar .ensures) _ _
-    (sym (ap quantile (none-left .left .given .1)) ∙ at-filter .filtered .ensures) (c .inverse-gaussian-quantile-bracketed .ensures)
+    (sym (ap viewQuantile (none-left .left .given .1)) ∙ at-filter .filtered .ensures) (c .inverse-gaussian-quantile-bracketed .ensures)
 
 returns-4 : tie.Need-returns-4
 returns-4 c =
     let at-filter = c .before .before in
     let at-test = at-filter .before .before in
     spent-steps _ _ _ _ (affirmed _ _ (at-test .before .is-solvable .ensures) (at-test .if1 .left)) (at-filter .before .inverse-gaussian-quantile-actuar .ensures)
-    (sym (ap quantile (c .enum-told .given .1)) ∙ at-filter .filtered .ensures)
+    (sym (ap viewQuantile (c .enum-told .given .1)) ∙ at-filter .filtered .ensures)
 
 pub inverse-gaussian-quantile-spec : {M : Type 1} → statement M
 inverse-gaussian-quantile-spec =

@@ -3,7 +3,7 @@ use Rattle.explicit_black.proofs.quantile.is_solvable.Statement.{statem
 use Rattle.explicit_black.proofs.quantile.is_solvable.Tie as tie
 
 returns : tie.Need-returns
-returns c = rw (c .is-proper .ensures, c .before .before .if1 .taken, c .before .if2 .taken)
+returns c = rw (c .is-finite-positive .ensures, c .before .before .if1 .taken, c .before .if2 .taken)
 
 returns-2 : tie.Need-returns-2
 returns-2 c = rw (c .before .if1 .taken, c .if2 .left)

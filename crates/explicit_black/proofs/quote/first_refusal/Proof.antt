@@ -1,6 +1,6 @@
 -- `first_refusal` meets its contract: each return by the tests that led there. Assumes nothing.
 use Rattle.arithmetic.specs.Laws.Numbers.{denied, affirmed}
-use Rattle.explicit_black.specs.LawsQuote.{no-side, a-side}
+use Rattle.explicit_black.specs.Laws.Quote.{no-side, a-side}
 use Rattle.explicit_black.specs.Quote.{firstRefusal}
 use Rattle.explicit_black.proofs.quote.first_refusal.Statement.{statement}
 use Rattle.explicit_black.proofs.quote.first_refusal.Tie as tie

@@ -1,5 +1,5 @@
 -- `from_call_price` meets its contract: each return by the tests that led there. Assumes nothing.
-use Rattle.explicit_black.proofs.Limits.{limited-searched}
+use Rattle.explicit_black.proofs.Allowed.{limited-searched}
 use Rattle.explicit_black.specs.Quote.{fromCallPrice}
 use Rattle.explicit_black.specs.Counted.{limited}
 use lib.Ieee.{nanBits}
@@ -8,7 +8,7 @@ use Rattle.explicit_black.proofs.quote.from_call_price.Tie as tie
 
 returns : tie.Need-returns
 unfolding fromCallPrice
-returns c = rw (c .before .before .if1 .taken, limited-searched, ← c .before .inverse-gaussian-quantile-from-survival .ensures) (c .total .ensures)
+returns c = rw (c .before .before .if1 .taken, limited-searched, ← c .before .inverse-gaussian-quantile-from-survival .ensures) (c .total-at .ensures)
 
 float-from-bits-t7 : tie.Need-float-from-bits-t7
 unfolding nanBits
@@ -24,7 +24,7 @@ returns-3 c = rw (c .before .before .if1 .left, c .before .if2 .left, c .if3 .ta
 
 returns-4 : tie.Need-returns-4
 unfolding fromCallPrice
-returns-4 c = rw (c .before .before .before .before .if1 .left, c .before .before .before .if2 .left, c .before .before .if3 .left, limited-searched, ← c .before .inverse-gaussian-quantile .ensures) (c .total2 .ensures)
+returns-4 c = rw (c .before .before .before .before .if1 .left, c .before .before .before .if2 .left, c .before .before .if3 .left, limited-searched, ← c .before .inverse-gaussian-quantile .ensures) (c .total-at2 .ensures)
 
 pub from-call-price-spec : {M : Type 1} → statement M
 from-call-price-spec =

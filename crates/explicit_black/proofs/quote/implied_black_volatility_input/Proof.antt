@@ -1,6 +1,6 @@
 -- `implied_black_volatility_input` meets its contract: the reply of a quote that is allowed as many evaluations as any can make. Assumes nothing.
-use Rattle.explicit_black.specs.LawsQuote.{input-count}
-use Rattle.explicit_black.proofs.Limits.{enough-within}
+use Rattle.explicit_black.specs.Laws.Quote.{input-count}
+use Rattle.explicit_black.proofs.Allowed.{enough-within}
 use Rattle.explicit_black.specs.Quote.{impliedBlackVolatilityInput}
 use Rattle.explicit_black.proofs.quote.implied_black_volatility_input.Statement.{statement}
 use Rattle.explicit_black.proofs.quote.implied_black_volatility_input.Tie as tie
@@ -8,13 +8,13 @@ use Rattle.explicit_black.proofs.quote.implied_black_volatility_input.T
 reply-requires : tie.Need-reply-requires
 reply-requires c κs =
     let at-outcome = c .before in
-    (c .sqrt .ensures, enough-within 2263 _ _ (rw (at-outcome .before .new .ensures) at (at-outcome .input-outcome .ensures)) (input-count _ _ _ _ _))
+    (c .sqrt .ensures, enough-within 2263 _ _ (rw (at-outcome .before .new .ensures) at (at-outcome .from-quote .ensures)) (input-count _ _ _ _ _))
 
 returns : tie.Need-returns
 unfolding impliedBlackVolatilityInput
 returns c =
     let at-outcome = c .before .before in
-    c .reply .ensures _ (rw (at-outcome .before .new .ensures) at (at-outcome .input-outcome .ensures))
+    c .reply .ensures _ (rw (at-outcome .before .new .ensures) at (at-outcome .from-quote .ensures))
 
 pub implied-black-volatility-input-spec : {M : Type 1} → statement M
 implied-black-volatility-input-spec = tie.close (tie.spec (λ c κs. tt) (λ c κs. tt) (λ c κs. tt) reply-requires returns)

@@ -4,16 +4,16 @@ use borrow.Author.Needs.{needs}
 use mathlib.Core.Path.{sym, ap, _∙_}
 use Rattle.explicit_black.specs.Counted.{limited}
 use Rattle.explicit_black.specs.Bracket.{halvings}
-use Rattle.explicit_black.specs.Survival.{survivalHalving, survivalFromAbove}
-use Rattle.explicit_black.specs.Meanings.{survivalEvaluated, widening}
-use Rattle.explicit_black.specs.LawsCounted.{Carried, carried, carried-at, carried-turn, carried-spent, carried-stop, some-spent, some-have, fewer}
-use Rattle.explicit_black.proofs.Halving.{survival-ends-above}
+use Rattle.explicit_black.specs.Survival.{survivalHalvingLoop, survivalFromAbove}
+use Rattle.explicit_black.specs.Internal.Searches.{viewSurvivalEvaluation, viewWidening}
+use Rattle.explicit_black.specs.Laws.Counted.{Carried, carried, carried-at, carried-turn, carried-spent, carried-stop, some-spent, some-have, fewer}
+use Rattle.explicit_black.proofs.HalvingEnds.{survival-ends-above}
 use Rattle.explicit_black.proofs.survival.from_above.Statement.{statement}
 use Rattle.explicit_black.proofs.survival.from_above.Tie as tie
 
 abbrev Inv-loop : tie.InvT-loop
 Inv-loop initial mu probability trial₀ left₀ trial left =
-    Carried (survivalHalving mu probability) halvings (limited (left₀ .left) (survivalFromAbove initial mu probability)) (left .left) (widening trial)
+    Carried (survivalHalvingLoop mu probability) halvings (limited (left₀ .left) (survivalFromAbove initial mu probability)) (left .left) (viewWidening trial)
 
 abbrev μ-loop : tie.MeasureT-loop
 μ-loop initial mu probability trial₀ left₀ trial left = left .left
@@ -26,30 +26,30 @@ loop-holds c =
     (carried (survival-ends-above (start .args .mu) (start .args .probability) (start .args .initial) (start .pre) (start .good .0 .1)))
 
 returns : tie.Need-returns Inv-loop μ-loop
-returns c = some-have _ _ _ _ (sym (carried-stop (carried-at (c .before .before .before .loop .inv) (ap widening (c .before .trial .given .1)))))
+returns c = some-have _ _ _ _ (sym (carried-stop (carried-at (c .before .before .before .loop .inv) (ap viewWidening (c .before .trial .given .1)))))
 
 returns-2 : tie.Need-returns-2 Inv-loop μ-loop
 returns-2 c =
     let at-survival = c .before .before in
     let at-trial = at-survival .before .before in
     some-spent _ _
-    (carried-spent _ (carried-at (at-trial .before .before .loop .inv) (ap widening (at-trial .trial2 .given .1)))
-    (sym (ap (survivalEvaluated (at-trial .trial2 .given .0 .0 .lower)) (c .enum-told .given .1)) ∙ at-survival .inverse-gaussian-survival .ensures))
+    (carried-spent _ (carried-at (at-trial .before .before .loop .inv) (ap viewWidening (at-trial .trial2 .given .1)))
+    (sym (ap (viewSurvivalEvaluation (at-trial .trial2 .given .0 .0 .lower)) (c .enum-told .given .1)) ∙ at-survival .inverse-gaussian-survival .ensures))
 
 loop-less : tie.Need-loop-less Inv-loop μ-loop
 loop-less c =
     let at-value = c .before .before in
     let at-survival = at-value .before .before in
     let at-trial = at-survival .before .before in
-    fewer _ (sym (ap (survivalEvaluated (at-trial .trial2 .given .0 .0 .lower)) (at-value .survival .given .1)) ∙ at-survival .inverse-gaussian-survival .ensures)
+    fewer _ (sym (ap (viewSurvivalEvaluation (at-trial .trial2 .given .0 .0 .lower)) (at-value .survival .given .1)) ∙ at-survival .inverse-gaussian-survival .ensures)
 
 loop-again : tie.Need-loop-again Inv-loop μ-loop
 loop-again c =
     let at-value = c .before .before in
     let at-survival = at-value .before .before in
     let at-trial = at-survival .before .before in
-    carried-turn _ (carried-at (at-trial .before .before .loop .inv) (ap widening (at-trial .trial2 .given .1)))
-    (sym (ap (survivalEvaluated (at-trial .trial2 .given .0 .0 .lower)) (at-value .survival .given .1)) ∙ at-survival .inverse-gaussian-survival .ensures) (sym (c .survival-lowered .ensures))
+    carried-turn _ (carried-at (at-trial .before .before .loop .inv) (ap viewWidening (at-trial .trial2 .given .1)))
+    (sym (ap (viewSurvivalEvaluation (at-trial .trial2 .given .0 .0 .lower)) (at-value .survival .given .1)) ∙ at-survival .inverse-gaussian-survival .ensures) (sym (c .survival-lowered .ensures))
 
 pub from-above-spec : {M : Type 1} → statement M
 from-above-spec =

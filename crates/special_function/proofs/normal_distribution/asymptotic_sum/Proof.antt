@@ -1,7 +1,7 @@
 -- Invariant: the loop is under way. Measure: the last term's size, in units of 2 ^ -1074. Assumes nothing.
 use mathlib.Core.Path.{sym, _∙_}
 use borrow.Author.Tests.{not-true, not-false}
-use Rattle.special_function.proofs.Ending.{rank, Underway, underway-start, underway-falls, underway-next, underway-done}
+use Rattle.special_function.proofs.AsymptoticSum.{rank, Underway, underway-start, underway-falls, underway-next, underway-done}
 use Rattle.special_function.proofs.normal_distribution.asymptotic_sum.Statement.{statement}
 use Rattle.special_function.proofs.normal_distribution.asymptotic_sum.Tie as tie
 

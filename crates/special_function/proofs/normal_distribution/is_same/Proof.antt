@@ -1,5 +1,5 @@
 -- `is_same` meets its contract. Assumes nothing.
-use Rattle.special_function.specs.LawsShared.{equal-numbers}
+use Rattle.special_function.specs.Laws.SharedExponential.{equal-numbers}
 use Rattle.special_function.proofs.normal_distribution.is_same.Statement.{statement}
 use Rattle.special_function.proofs.normal_distribution.is_same.Tie as tie
 

@@ -1,6 +1,6 @@
 -- `norm_pdf_of_square` meets its contract. Assumes nothing.
 use mathlib.Core.Path.{sym, _∙_}
-use Rattle.special_function.specs.Shared.{normPdfOfSquare}
+use Rattle.special_function.specs.Internal.SharedExponential.{normPdfOfSquare}
 use Rattle.special_function.proofs.normal_distribution.norm_pdf_of_square.Statement.{
   statement,
 }

@@ -7,13 +7,13 @@ use lib.ListN.{length, getD, take, drop}
 use lib.Seq.{take-all}
 use lib.Ieee.{Float, nan}
 use borrow.Author.Needs.{needs}
-use Rattle.arithmetic.specs.Operations.{nought}
+use Rattle.arithmetic.specs.Operations.{plusZero}
 use Rattle.special_function.specs.Polynomial.{evaluate, nested}
-use Rattle.special_function.specs.Laws.{nested-chain}
+use Rattle.special_function.specs.Laws.Polynomial.{nested-chain}
 use Rattle.special_function.proofs.polynomial.nested.Statement.{statement}
 use Rattle.special_function.proofs.polynomial.nested.Tie as tie
 
-none : (z : Float) (cs : List Float) → length cs ≡ 0 → nought ≡ nested z cs
+none : (z : Float) (cs : List Float) → length cs ≡ 0 → plusZero ≡ nested z cs
 unfolding nested
 none z [] h = refl
 none z (c ∷ cs) h = absurd (some h)

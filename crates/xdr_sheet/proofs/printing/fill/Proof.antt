@@ -2,7 +2,7 @@
 use mathlib.Core.Path.{sym, _∙_}
 use native.Mathlib.Omega.{arith}
 use Rattle.xdr_sheet.specs.Printing.{left}
-use Rattle.xdr_sheet.proofs.Filling.{Sofar, nothing-yet, all-lines, one-line, no-line, same-back, line-falls}
+use Rattle.xdr_sheet.proofs.Fill.{Sofar, nothing-yet, all-lines, one-line, no-line, same-back, line-falls}
 use borrow.Author.Needs.{needs}
 use Rattle.xdr_sheet.proofs.printing.fill.Statement.{statement}
 use Rattle.xdr_sheet.proofs.printing.fill.Tie as tie

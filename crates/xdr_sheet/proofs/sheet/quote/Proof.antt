@@ -1,5 +1,5 @@
 -- Straight: each field is the definition's. Assumes nothing.
-use Rattle.xdr_sheet.specs.LawsSheet.{reply-from}
+use Rattle.xdr_sheet.specs.Laws.Sheet.{reply-from}
 use borrow.Author.Needs.{needs}
 use Rattle.xdr_sheet.proofs.sheet.quote.Statement.{statement}
 use Rattle.xdr_sheet.proofs.sheet.quote.Tie as tie

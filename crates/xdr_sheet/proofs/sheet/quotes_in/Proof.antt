@@ -1,5 +1,5 @@
 -- The tests that led to each return pick the definition's case. Assumes nothing.
-use Rattle.xdr_sheet.specs.LawsSheet.{size-short, size-many, size-whole, size-other}
+use Rattle.xdr_sheet.specs.Laws.Sheet.{size-short, size-many, size-whole, size-other}
 use borrow.Author.Needs.{needs}
 use native.Mathlib.Omega.{arith}
 use Rattle.xdr_sheet.proofs.sheet.quotes_in.Statement.{statement}

@@ -1,8 +1,8 @@
 -- What was found of the sheet and the index picks the case. Assumes nothing.
 use mathlib.Core.Path.{_≡_, sym, ap, _∙_}
 use Rattle.xdr_sheet.specs.Sheet.{quotes, size, quoted}
-use Rattle.xdr_sheet.specs.Replies.{sized}
-use Rattle.xdr_sheet.specs.LawsSheet.{quote-within, quote-there, quote-past, quote-none}
+use Rattle.xdr_sheet.specs.Replies.{viewSize}
+use Rattle.xdr_sheet.specs.Laws.Sheet.{quote-within, quote-there, quote-past, quote-none}
 use borrow.Author.Needs.{needs}
 use Rattle.xdr_sheet.proofs.sheet.reply.Statement.{statement}
 use Rattle.xdr_sheet.proofs.sheet.reply.Tie as tie
@@ -15,7 +15,7 @@ abbrev entry : tie.After-quotes-in → tie.Start
 entry q = q .before .before
 
 accepted : (n : tie.After-count) → quotes (n .count .given .0 .0) ≡ size (entry (found n) .args .sheet .now)
-accepted n = sym (ap sized (n .count .given .1)) ∙ found n .quotes-in .ensures
+accepted n = sym (ap viewSize (n .count .given .1)) ∙ found n .quotes-in .ensures
 
 quote-requires : tie.Need-quote-requires
 quote-requires c κs =
@@ -36,7 +36,7 @@ returns-3 : tie.Need-returns-3
 returns-3 c =
     let n = c .before in
     let q = n .before .before in
-    quote-none (entry q .args .sheet .now) (entry q .args .index) _ _ (sym (ap sized (n .number .given .1)) ∙ q .quotes-in .ensures)
+    quote-none (entry q .args .sheet .now) (entry q .args .index) _ _ (sym (ap viewSize (n .number .given .1)) ∙ q .quotes-in .ensures)
 
 pub reply-spec : {M : Type 1} → statement M
 reply-spec =

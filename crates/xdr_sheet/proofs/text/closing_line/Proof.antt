@@ -1,6 +1,6 @@
 -- One piece after another. Assumes nothing.
 use Rattle.xdr_sheet.specs.Text.{closing}
-use Rattle.xdr_sheet.proofs.Texts.{_then_, from-empty}
+use Rattle.xdr_sheet.proofs.Lines.{_then_, from-empty}
 use borrow.Author.Needs.{needs}
 use Rattle.xdr_sheet.proofs.text.closing_line.Statement.{statement}
 use Rattle.xdr_sheet.proofs.text.closing_line.Tie as tie

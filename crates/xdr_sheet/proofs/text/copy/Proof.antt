@@ -4,7 +4,7 @@ use mathlib.Core.List.{_++_}
 use Prim.Native.Nat.{_≤_, _-_}
 use native.Mathlib.Omega.{arith}
 use lib.ListN.{length, take, drop}
-use Rattle.xdr_sheet.proofs.Texts.{kept-length, copied}
+use Rattle.xdr_sheet.proofs.Lines.{kept-length, copied}
 use Rattle.xdr_sheet.proofs.text.copy.Statement.{statement}
 use Rattle.xdr_sheet.proofs.text.copy.Tie as tie
 

@@ -1,7 +1,7 @@
 -- The test says whether the text fits. Assumes nothing.
 use native.Mathlib.Omega.{arith}
-use Rattle.xdr_sheet.specs.Lines.{written}
-use Rattle.xdr_sheet.proofs.Texts.{no-room, with-room}
+use Rattle.xdr_sheet.specs.Internal.Lines.{written}
+use Rattle.xdr_sheet.proofs.Lines.{no-room, with-room}
 use borrow.Author.Needs.{needs}
 use Rattle.xdr_sheet.proofs.text.place.Statement.{statement}
 use Rattle.xdr_sheet.proofs.text.place.Tie as tie

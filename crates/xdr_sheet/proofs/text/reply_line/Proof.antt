@@ -1,5 +1,5 @@
 -- One piece after another. Assumes nothing.
-use Rattle.xdr_sheet.proofs.Texts.{answer-line, refusal-line}
+use Rattle.xdr_sheet.proofs.Lines.{answer-line, refusal-line}
 use borrow.Author.Needs.{needs}
 use Rattle.xdr_sheet.proofs.text.reply_line.Statement.{statement}
 use Rattle.xdr_sheet.proofs.text.reply_line.Tie as tie

@@ -10,11 +10,11 @@ returns c = rw (c .before .before .before .before .step .given .1, ← c .before
 
 returns-2 : tie.Need-returns-2
 unfolding moved
-returns-2 c = rw (c .onward .ensures, c .before .before .before .before .before .before .step .given .1, ← c .before .before .before .before .abs .ensures, ← c .before .before .before .max .ensures, c .before .before .if1 .left, c .before .chosen .ensures)
+returns-2 c = rw (c .continue-at .ensures, c .before .before .before .before .before .before .step .given .1, ← c .before .before .before .before .abs .ensures, ← c .before .before .before .max .ensures, c .before .before .if1 .left, c .before .chosen .ensures)
 
 returns-3 : tie.Need-returns-3
 unfolding moved
-returns-3 c = rw (c .onward2 .ensures, c .before .before .enum-told .given .1, c .before .bracket-midpoint .ensures)
+returns-3 c = rw (c .continue-at2 .ensures, c .before .before .enum-told .given .1, c .before .bracket-midpoint .ensures)
 
 pub moved-spec : {M : Type 1} → statement M
 moved-spec =

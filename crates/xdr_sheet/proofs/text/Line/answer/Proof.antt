@@ -1,6 +1,6 @@
 -- One piece after another. Assumes nothing.
 use Rattle.xdr_sheet.specs.Text.{answerFields}
-use Rattle.xdr_sheet.proofs.Texts.{_then_}
+use Rattle.xdr_sheet.proofs.Lines.{_then_}
 use borrow.Author.Needs.{needs}
 use Rattle.xdr_sheet.proofs.text.Line.answer.Statement.{statement}
 use Rattle.xdr_sheet.proofs.text.Line.answer.Tie as tie

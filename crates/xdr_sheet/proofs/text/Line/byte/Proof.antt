@@ -1,6 +1,6 @@
 -- One byte more. Assumes nothing.
 use mathlib.Core.Path.{refl}
-use Rattle.xdr_sheet.proofs.Texts.{one-more, room}
+use Rattle.xdr_sheet.proofs.Lines.{one-more, room}
 use borrow.Author.Needs.{needs}
 use Rattle.xdr_sheet.proofs.text.Line.byte.Statement.{statement}
 use Rattle.xdr_sheet.proofs.text.Line.byte.Tie as tie

@@ -4,8 +4,8 @@ use native.Mathlib.Omega.{arith}
 use borrow.Author.Needs.{needs}
 use lib.ListN.{length, take}
 use lib.Seq.{length-take-le}
-use Rattle.xdr_sheet.specs.Lines.{Extended}
-use Rattle.xdr_sheet.proofs.Texts.{same-line, turn, whole}
+use Rattle.xdr_sheet.specs.Internal.Lines.{Extended}
+use Rattle.xdr_sheet.proofs.Lines.{same-line, turn, whole}
 use Rattle.xdr_sheet.proofs.text.Line.bytes.Statement.{statement}
 use Rattle.xdr_sheet.proofs.text.Line.bytes.Tie as tie
 

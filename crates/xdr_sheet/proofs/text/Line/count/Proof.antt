@@ -1,6 +1,6 @@
 -- The array has 80 bytes. Assumes nothing.
 use native.Mathlib.Omega.{arith}
-use Rattle.xdr_sheet.proofs.Texts.{written-below, written-above}
+use Rattle.xdr_sheet.proofs.Lines.{written-below, written-above}
 use Rattle.xdr_sheet.proofs.text.Line.count.Statement.{statement}
 use Rattle.xdr_sheet.proofs.text.Line.count.Tie as tie
 

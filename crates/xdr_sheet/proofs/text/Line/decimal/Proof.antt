@@ -3,8 +3,8 @@ use mathlib.Core.Path.{_∙_, subst}
 use mathlib.Core.List.{List}
 use Prim.Native.Nat.{ℕ, _≤_}
 use native.Mathlib.Omega.{arith}
-use Rattle.xdr_sheet.specs.Lines.{Extended}
-use Rattle.xdr_sheet.proofs.Texts.{decimal-is, places-le}
+use Rattle.xdr_sheet.specs.Internal.Lines.{Extended}
+use Rattle.xdr_sheet.proofs.Lines.{decimal-is, places-le}
 use borrow.Author.Needs.{needs}
 use Rattle.xdr_sheet.proofs.text.Line.decimal.Statement.{statement}
 use Rattle.xdr_sheet.proofs.text.Line.decimal.Tie as tie

@@ -3,8 +3,8 @@ use mathlib.Core.Path.{_≡_, _∙_, subst}
 use mathlib.Core.List.{List}
 use Prim.Native.Nat.{ℕ}
 use native.Mathlib.Omega.{arith}
-use Rattle.xdr_sheet.specs.Lines.{Extended}
-use Rattle.xdr_sheet.proofs.Texts.{hexadecimal-is, sixteen}
+use Rattle.xdr_sheet.specs.Internal.Lines.{Extended}
+use Rattle.xdr_sheet.proofs.Lines.{hexadecimal-is, sixteen}
 use borrow.Author.Needs.{needs}
 use Rattle.xdr_sheet.proofs.text.Line.hexadecimal.Statement.{statement}
 use Rattle.xdr_sheet.proofs.text.Line.hexadecimal.Tie as tie

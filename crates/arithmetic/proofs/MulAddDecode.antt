@@ -1,0 +1,59 @@
+-- A finite value by the fields of its bit pattern, as `decode` takes them. Assumes nothing.
+use mathlib.Core.Path.{_≡_, refl, sym, _∙_, subst}
+use mathlib.Core.Bool.{Bool}
+use Prim.Native.Nat.{ℕ, suc, _+_, _-_, _*_, _/_, _^_, _<_}
+use native.Mathlib.Nat.{add-comm, lt-irrefl}
+use native.Mathlib.Omega.{arith}
+use lib.Dec.{T, leb, lit<}
+use lib.Pow.{field}
+use lib.Bits.{bitAnd, and-mask, mask-lt}
+use lib.Ieee.{Float, binary64, fits, ofFields, toBits}
+use lib.Ieee.Exact.{HasValue}
+use lib.Ieee.Scale.{finite}
+use lib.Ieee.Bits.{ofBits-toBits}
+use Rattle.arithmetic.specs.Internal.MulAdd.{Decoded}
+use Rattle.arithmetic.specs.Laws.Patterns.{ofBits-is, read-zero, read-more, finite-field}
+
+module _ (x : Float) (F : T (fits binary64 x)) (h : T (finite x)) where
+  abbrev b : ℕ
+  b = toBits binary64 x
+
+  abbrev s : Bool
+  s = leb (2 ^ 63) b
+
+  abbrev f : ℕ
+  f = bitAnd (b / 2 ^ 52) 0x7ff
+
+  abbrev t : ℕ
+  t = bitAnd b 0xf_ffff_ffff_ffff
+
+  is : (y : ℕ) → f ≡ y → ofFields binary64 s y t ≡ x
+  is y e = rw (← e, and-mask (b / 2 ^ 52) 11, and-mask b 52, ← field b 11 52) (sym (ofBits-is b) ∙ ofBits-toBits binary64 x F)
+
+  pub field-lt : f < 2047
+  field-lt =
+      let a = mask-lt (b / 2 ^ 52) 11 in
+      let n : f ≡ 2047 → ⊥ = finite-field s f t (subst (λ (v : Float). T (finite v)) (sym (is f refl)) h) in
+      omega arith
+
+  pub at-zero : f ≡ 0 → HasValue x s (t * 2 ^ 0) (2 ^ 1074)
+  at-zero e = subst (λ (v : Float). HasValue v s (t * 2 ^ 0) (2 ^ 1074)) (is 0 e) (read-zero s t)
+
+  pub at-more : (j : ℕ) → f ≡ suc j → HasValue x s ((2 ^ 52 + t) * 2 ^ j) (2 ^ 1074)
+  at-more j e = subst (λ (v : Float). HasValue v s ((2 ^ 52 + t) * 2 ^ j) (2 ^ 1074)) (is (suc j) e) (read-more s j t (subst (λ (y : ℕ). y < 2047) e field-lt))
+
+  pub decoded-zero : f ≡ 0 → Decoded x (record { negative = s; m = t; j = 0 })
+  decoded-zero e =
+      let a = mask-lt b 52 in
+      record { value = at-zero e; small = omega arith; low = lit< tt; lead = λ h. absurd (lt-irrefl 0 h) }
+
+  pub decoded-more : (f ≡ 0 → ⊥) → Decoded x (record { negative = s; m = t + 2 ^ 52; j = f - 1 })
+  decoded-more n =
+      let a = mask-lt b 52 in
+      let l = field-lt in
+      record {
+        value = subst (λ (m : ℕ). HasValue x s (m * 2 ^ (f - 1)) (2 ^ 1074)) (add-comm (2 ^ 52) t) (at-more (f - 1) (omega arith));
+        small = omega arith;
+        low = omega arith;
+        lead = λ h. omega arith;
+      }

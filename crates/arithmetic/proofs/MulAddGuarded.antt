@@ -1,0 +1,79 @@
+-- A number v, of at most 128 digits, times 2 ^ e, cut above the place `at`: what `cut` gives rounds as it does. Assumes nothing.
+use mathlib.Core.Path.{_≡_, refl, sym, ap, _∙_, subst}
+use Prim.Native.Nat.{ℕ, _+_, _-_, _*_, _/_, _%_, _^_, _≤_, _<_, min}
+use native.Mathlib.Nat.{le-trans, le-of-eq, lt-of-lt-of-le, mul-assoc, mul-le-mul-right, mul-pos, mod-lt, le-div-iff-mul-le}
+use native.Mathlib.Omega.{arith}
+use lib.Pow.{pow-pos, pow-mono, shl-lt, shr-lt, split}
+use lib.Ieee.{size}
+use lib.Ieee.Digits.{size-lt, size-reaches}
+use lib.Ieee.Nearest.{closest, closest-same}
+use Rattle.arithmetic.specs.Internal.Pair.{jammed}
+use Rattle.arithmetic.specs.Internal.MulAdd.{IsGuarded}
+use Rattle.arithmetic.specs.Laws.Numbers.{pow-split, size-mul}
+use Rattle.arithmetic.proofs.RoundDropped.{closest-jam, size-div}
+
+module _ (v e at : ℕ) (P : 0 < size v) (Z : size v ≤ 128) (E : e < 4096) (A : at ≡ 1074 + (size v + e - 1127)) where
+  -- m stands for the result before its lower half is taken
+  result : (h l m : ℕ) → h * 2 ^ 64 + l ≡ m → m < 2 ^ 55 → (0 < at - 1074 → 2 ^ 54 ≤ m) → closest (v * 2 ^ e) (2 ^ at) ≡ closest m 4 → IsGuarded (v * 2 ^ e) (record { m = l; k = at - 1074 })
+  result h l m a b d f =
+      let g : l ≡ m = omega arith in
+      let w : 1074 + (at - 1074) ≡ at = omega arith in
+      let c : size v + e - 1074 - 53 ≡ at - 1074 = omega arith in
+      record {
+        count = sym (ap (λ (x : ℕ). x - 53) (size-div (v * 2 ^ e) 1074 ∙ ap (λ (x : ℕ). x - 1074) (size-mul v e (size-reaches v 0 P))) ∙ c);
+        same = ap (λ (x : ℕ). closest (v * 2 ^ e) (2 ^ x)) w ∙ f ∙ ap (λ (x : ℕ). closest x 4) (sym g);
+        short = omega arith;
+        low = omega arith;
+        lead = λ k. subst (λ (x : ℕ). 2 ^ 54 ≤ x) (sym g) (d k);
+      }
+
+  -- ---- with digits to cut
+  module _ (h : e + 2 ≤ at) where
+    abbrev d : ℕ
+    d = at - e - 2
+
+    jam-short : jammed v d < 2 ^ 55
+    jam-short = twice (v / 2 ^ (d + 1)) (v % 2 ^ (d + 1)) (shr-lt 54 (d + 1) (lt-of-lt-of-le (size-lt v) (pow-mono {j = 54 + (d + 1)} (omega arith))))
+      where
+        twice : (q t : ℕ) → q < 2 ^ 54 → q * 2 + min 1 t < 2 ^ 55
+        twice q t a = omega arith
+
+    jam-lead : 0 < at - 1074 → 2 ^ 54 ≤ jammed v d
+    jam-lead k =
+        more (v / 2 ^ (d + 1)) (v % 2 ^ (d + 1))
+        (le-div-iff-mul-le (pow-pos (d + 1)) .1 (le-trans (le-of-eq (pow-split 53 (d + 1) (size v - 1) (omega arith))) (size-reaches v (size v - 1) (omega arith))))
+      where
+        more : (q t : ℕ) → 2 ^ 53 ≤ q → 2 ^ 54 ≤ q * 2 + min 1 t
+        more q t a = omega arith
+
+    jam-same : closest (v * 2 ^ e) (2 ^ at) ≡ closest (jammed v d) 4
+    jam-same =
+        closest-same (v * 2 ^ e) (2 ^ at) v (2 * 2 ^ (d + 1)) (pow-pos at) (mul-pos (pow-pos 1) (pow-pos (d + 1)))
+        (mul-assoc v (2 ^ e) (2 * 2 ^ (d + 1)) ∙ ap (λ (x : ℕ). v * x) (ap (λ (x : ℕ). 2 ^ e * x) (pow-split 1 (d + 1) (1 + (d + 1)) refl) ∙ pow-split e (1 + (d + 1)) at (omega arith)))
+        ∙ ap (λ (x : ℕ). closest x (2 * 2 ^ (d + 1))) (sym (split v (d + 1)))
+        ∙ closest-jam (2 ^ (d + 1)) (v / 2 ^ (d + 1)) (v % 2 ^ (d + 1)) (mod-lt v (pow-pos (d + 1)))
+
+    pub cut-jam : (h l : ℕ) → h * 2 ^ 64 + l ≡ jammed v d → IsGuarded (v * 2 ^ e) (record { m = l; k = at - 1074 })
+    cut-jam h l a = result h l (jammed v d) a jam-short jam-lead jam-same
+
+  -- ---- with none
+  module _ (h : at < e + 2) where
+    abbrev u : ℕ
+    u = e + 2 - at
+
+    pub up-by : u < 128
+    up-by = omega arith
+
+    pub up-short : v * 2 ^ u < 2 ^ 55
+    up-short = lt-of-lt-of-le (shl-lt (size v) u (size-lt v)) (pow-mono {j = 55} (omega arith))
+
+    up-lead : 0 < at - 1074 → 2 ^ 54 ≤ v * 2 ^ u
+    up-lead k = le-trans (le-of-eq (sym (pow-split (size v - 1) u 54 (omega arith)))) (mul-le-mul-right (2 ^ u) (size-reaches v (size v - 1) (omega arith)))
+
+    up-same : closest (v * 2 ^ e) (2 ^ at) ≡ closest (v * 2 ^ u) 4
+    up-same =
+        closest-same (v * 2 ^ e) (2 ^ at) (v * 2 ^ u) 4 (pow-pos at) (pow-pos 2)
+        (mul-assoc v (2 ^ e) 4 ∙ ap (λ (x : ℕ). v * x) (pow-split e 2 (e + 2) refl ∙ sym (pow-split u at (e + 2) (omega arith))) ∙ sym (mul-assoc v (2 ^ u) (2 ^ at)))
+
+    pub cut-up : (h l : ℕ) → h * 2 ^ 64 + l ≡ v * 2 ^ u → IsGuarded (v * 2 ^ e) (record { m = l; k = at - 1074 })
+    cut-up h l a = result h l (v * 2 ^ u) a up-short up-lead up-same

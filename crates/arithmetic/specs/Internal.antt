@@ -1,0 +1,5 @@
+-- Definitions that only serve the code: what the contracts of its inner steps cite.
+pub mod MulAdd
+pub mod Exp
+pub mod WholePart
+pub mod Pair

@@ -1,0 +1,3 @@
+-- Definitions that only serve the code: what the contracts of its inner steps cite.
+pub mod Searches
+pub mod Quote

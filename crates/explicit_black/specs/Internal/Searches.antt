@@ -1,0 +1,82 @@
+-- What the code's enums say, in the types of the definitions. Definitions only.
+use lib.Ieee.{Float}
+use Rattle.arithmetic.specs.Operations.{_⊗_, _⊘_}
+use Rattle.special_function.specs.NormalDistribution.{normPdf}
+use Rattle.explicit_black.specs.declared.bracket.Bracket.{Bracket}
+use Rattle.explicit_black.specs.declared.bracket.Widening.{Widening}
+use Rattle.explicit_black.specs.declared.bracket.Widening.the-variants.{Reached, Wider}
+use Rattle.explicit_black.specs.declared.curves.Evaluation.{Evaluation}
+use Rattle.explicit_black.specs.declared.curves.Evaluation.the-variants.{Value, Spent as NoValue}
+use Rattle.explicit_black.specs.declared.curves.SurvivalEvaluation.{SurvivalEvaluation}
+use Rattle.explicit_black.specs.declared.curves.SurvivalEvaluation.the-variants.{Value as Survives, Spent as NoSurvival}
+use Rattle.explicit_black.specs.declared.counted.Reach.{Reach}
+use Rattle.explicit_black.specs.declared.counted.Reach.the-variants.{Found, None as Nowhere, Spent as NoReach}
+use Rattle.explicit_black.specs.declared.counted.Quantile.{Quantile}
+use Rattle.explicit_black.specs.declared.counted.Quantile.the-variants.{Root, None, Spent}
+use Rattle.explicit_black.specs.declared.newton.Newton.{Newton}
+use Rattle.explicit_black.specs.declared.newton.Newton.the-variants.{Move, Refused}
+use Rattle.explicit_black.specs.declared.newton.Stepped.{Stepped}
+use Rattle.explicit_black.specs.declared.newton.Stepped.the-variants.{Root as StepRoot, None as Failed, Again as Onward}
+use Rattle.explicit_black.specs.declared.quantile.Iteration.{Iteration}
+use Rattle.explicit_black.specs.declared.quantile.Iteration.the-variants.{Root as Last, Again}
+use Rattle.explicit_black.specs.declared.survival.Doubling.{Doubling}
+use Rattle.explicit_black.specs.declared.survival.Doubling.the-variants.{Reached as Enough, Wider as More, Beyond}
+use Rattle.explicit_black.specs.Counted.{Option, some, none, Sample, sample, Metered, have, spent}
+use Rattle.explicit_black.specs.Loops.{Next, go, stop}
+
+-- ---- with how many evaluations are left
+
+-- a value of the distribution and the density
+abbrev pub viewEvaluation : Evaluation → Metered Sample
+viewEvaluation (Value v pdf n) = have (sample v pdf) (n .left)
+viewEvaluation NoValue = spent
+
+-- the density at x, from √x and a
+abbrev pub pdfFrom : Float → Float → Float → Float
+pdfFrom x sqrtX a = normPdf (a ⊗ a) ⊘ (x ⊗ sqrtX)
+
+-- a value of the survival probability at x and the density
+abbrev pub viewSurvivalEvaluation : Float → SurvivalEvaluation → Metered Sample
+viewSurvivalEvaluation x (Survives v sqrtX a n) = have (sample v (pdfFrom x sqrtX a)) (n .left)
+viewSurvivalEvaluation x NoSurvival = spent
+
+-- a bracket, or none
+abbrev pub viewReach : Reach → Metered (Option Bracket)
+viewReach (Found b n) = have (some b) (n .left)
+viewReach (Nowhere n) = have none (n .left)
+viewReach NoReach = spent
+
+-- a root, or none
+abbrev pub viewQuantile : Quantile → Metered (Option Float)
+viewQuantile (Root x n) = have (some x) (n .left)
+viewQuantile (None n) = have none (n .left)
+viewQuantile Spent = spent
+
+-- ---- of one turn
+
+-- a Newton step
+abbrev pub viewNewton : Newton → Option Float
+viewNewton (Move dx) = some dx
+viewNewton Refused = none
+
+-- after a Newton step
+abbrev pub viewStepped : Stepped → Next (Float × Float) (Option Float)
+viewStepped (StepRoot x) = stop (some x)
+viewStepped Failed = stop none
+viewStepped (Onward x direction) = go (x, direction)
+
+-- after a doubling that always ends in a bracket, or a halving
+abbrev pub viewWidening : Widening → Next Bracket Bracket
+viewWidening (Reached b) = stop b
+viewWidening (Wider b) = go b
+
+-- after a doubling of the survival path
+abbrev pub viewDoubling : Doubling → Next Bracket (Option Bracket)
+viewDoubling (Enough b) = stop (some b)
+viewDoubling (More b) = go b
+viewDoubling Beyond = stop none
+
+-- after a round
+abbrev pub viewIteration : Iteration → Next (Bracket × Float) Float
+viewIteration (Last x) = stop x
+viewIteration (Again b x) = go (b, x)

@@ -1,0 +1,2 @@
+-- Definitions that only serve the code: what the contracts of its inner steps cite.
+pub mod SharedExponential

@@ -1,0 +1,79 @@
+-- No line has more than `lineBytes` bytes; a text at the start of a buffer. Assumes nothing.
+use mathlib.Core.Path.{_≡_, refl, _∙_}
+use Prim.Native.Nat.{ℕ, zero, suc, _+_, _/_, _%_, _≤_, _<_}
+use native.Mathlib.Omega.{arith}
+use mathlib.Core.Bool.{Bool, true, false, not, cond}
+use mathlib.Core.List.{List, [], _∷_}
+use lib.Dec.{T, ltb, lit≤, leb→le, nleb→lt}
+use lib.Ieee.{binary64, toBits}
+use lib.ListN.{length, length-append}
+use Rattle.io.specs.Digits.{digits, glyph}
+use Rattle.explicit_black.specs.Quote.{Reply, answer, refusal}
+use Rattle.xdr_sheet.specs.Text.{decimalDigits, hexadecimalDigits, lineBytes, places, decimal, hexadecimal, line, closing, refusedSheet}
+use Rattle.xdr_sheet.specs.Internal.Lines.{fitsInto, overlaid, placed, placing}
+use Rattle.xdr_sheet.specs.declared.tally.Tally.{Tally}
+use Rattle.xdr_sheet.specs.declared.text.Placed.the-variants.{Bytes, NoRoom}
+
+-- two constructors are never equal
+pub never : {A : Type 0} → _≡_ {A = ℕ} 0 1 → A
+never z = absurd (omega arith)
+
+-- ---- numbers
+length-digits : (b k n : ℕ) → length (digits b k n) ≡ k
+length-digits b zero n = refl
+length-digits b (suc k) n =
+    let e : length (digits b k (n / b)) + 1 ≡ suc k = omega (arith, length-digits b k (n / b)) in
+    length-append (digits b k (n / b)) (glyph (n % b) ∷ []) ∙ e
+
+pub few-places : (f n : ℕ) → places f n ≤ suc f
+unfolding places
+few-places zero n = lit≤ tt
+few-places (suc f) n = go (ltb n 10) (few-places f (n / 10))
+  where
+    go : (b : Bool) → places f (n / 10) ≤ suc f → cond b 1 (suc (places f (n / 10))) ≤ suc (suc f)
+    go true h = omega arith
+    go false h = omega arith
+
+decimal-short : (n : ℕ) → length (decimal n) ≤ decimalDigits
+unfolding decimal
+decimal-short n = omega (arith, length-digits 10 (places 19 n) n, few-places 19 n)
+
+hexadecimal-short : (n : ℕ) → length (hexadecimal n) ≤ hexadecimalDigits
+unfolding hexadecimal
+hexadecimal-short n = omega (arith, length-digits 16 hexadecimalDigits n)
+
+-- ---- lines
+pub line-short : (number : ℕ) (r : Reply) → length (line number r) ≤ lineBytes
+unfolding line
+line-short number (answer total volatility count) =
+    simp length-append
+    (omega (arith, decimal-short number, hexadecimal-short (toBits binary64 total), hexadecimal-short (toBits binary64 volatility), decimal-short count))
+line-short number (refusal reason count) = simp length-append (omega (arith, decimal-short number, decimal-short reason, decimal-short count))
+
+pub closing-short : (t : Tally) → length (closing t) ≤ lineBytes
+unfolding closing
+closing-short t = simp length-append (omega (arith, decimal-short (t .answers), decimal-short (t .refusals)))
+
+pub refused-short : (number : ℕ) → length (refusedSheet number) ≤ lineBytes
+unfolding refusedSheet
+refused-short number = simp length-append (omega (arith, decimal-short number))
+
+-- ---- what was said of a text put at the start of a buffer
+module _ (text buffer : List ℕ) where
+  pub placed-bytes : (n : ℕ) → Bytes n ≡ placed text buffer → (n ≡ length text) × (length text ≤ length buffer) × (placing text buffer ≡ overlaid text buffer)
+  unfolding placed placing
+  placed-bytes n e = go (fitsInto text (length buffer)) (leb→le (length text) (length buffer)) e
+    where
+      go : (b : Bool) → (T b → length text ≤ length buffer) → Bytes n ≡ cond b (Bytes (length text)) NoRoom
+          → (n ≡ length text) × (length text ≤ length buffer) × (cond b (overlaid text buffer) buffer ≡ overlaid text buffer)
+      go true h e = (cc, h tt, refl)
+      go false h e = never (cc)
+
+  pub placed-none : NoRoom ≡ placed text buffer → (length buffer < length text) × (placing text buffer ≡ buffer)
+  unfolding placed placing
+  placed-none e = go (fitsInto text (length buffer)) (nleb→lt (length text) (length buffer)) e
+    where
+      go : (b : Bool) → (T (not b) → length buffer < length text) → NoRoom ≡ cond b (Bytes (length text)) NoRoom
+          → (length buffer < length text) × (cond b (overlaid text buffer) buffer ≡ buffer)
+      go true h e = never (cc)
+      go false h e = (h tt, refl)

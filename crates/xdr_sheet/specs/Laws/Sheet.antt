@@ -1,0 +1,111 @@
+-- What the tests of a sheet's length and count say of its size. Assumes nothing.
+use mathlib.Core.Path.{_≡_, refl, sym, ap, _∙_}
+use Prim.Native.Nat.{ℕ, _+_, _≤_, _<_}
+use mathlib.Core.Bool.{Bool, true, false, not, cond}
+use mathlib.Core.List.{List}
+use borrow.Author.Tests.{lt-ltb, le-ltb, eq-eqb, ne-eqb}
+use native.Mathlib.Nat.{lt-of-lt-of-le}
+use native.Mathlib.Omega.{arith}
+use lib.Dec.{T, leb, ltb, eqb, leb→le, nleb→lt, ltb→lt, nltb→le, eqb→eq}
+use lib.ListN.{length, take}
+use lib.Seq.{take-all, length-take-le}
+use lib.Ieee.{Float}
+use Rattle.explicit_black.specs.Quote.{Reply, refusal, impliedBlackVolatilityInput}
+use Rattle.xdr_sheet.specs.Xdr.{unsigned, double}
+use Rattle.xdr_sheet.specs.Sheet.{countBytes, quoteBytes, maxQuotes, priceAt, forwardAt, strikeAt, timeAt, bytesOf, inputBytes}
+use Rattle.xdr_sheet.specs.Sheet.{Size, quotes, refused, noSheet, size, quotedAt, noQuote, quoted, replyFrom, replyAt, text}
+use Rattle.xdr_sheet.specs.Laws.Lines.{never}
+
+abbrev picked : Bool → Bool → Bool → ℕ → Size
+picked short many whole n = cond short noSheet (cond many noSheet (cond whole (quotes n) noSheet))
+
+module _ (s : List ℕ) (n : ℕ) (e : n ≡ unsigned s 0) where
+  size-by : size s ≡ picked (ltb (length s) countBytes) (ltb maxQuotes n) (eqb (length s) (bytesOf n)) n
+  unfolding size
+  size-by = rw e
+
+  pub size-many : countBytes ≤ length s → maxQuotes < n → noSheet ≡ size s
+  size-many a b = sym (size-by ∙ rw (le-ltb (length s) countBytes a, lt-ltb maxQuotes n b))
+
+  pub size-whole : countBytes ≤ length s → n ≤ maxQuotes → length s ≡ bytesOf n → quotes n ≡ size s
+  size-whole a b d = sym (size-by ∙ rw (le-ltb (length s) countBytes a, le-ltb maxQuotes n b, eq-eqb (length s) (bytesOf n) d))
+
+  pub size-other : countBytes ≤ length s → n ≤ maxQuotes → (length s ≡ bytesOf n → ⊥) → noSheet ≡ size s
+  size-other a b d = sym (size-by ∙ rw (le-ltb (length s) countBytes a, le-ltb maxQuotes n b, ne-eqb (length s) (bytesOf n) d))
+
+pub size-short : (s : List ℕ) → length s < countBytes → noSheet ≡ size s
+unfolding size
+size-short s h = rw (lt-ltb (length s) countBytes h)
+
+-- ---- a sheet of n quotes: how many there may be, and how long it is
+sizes : (s : List ℕ) (n : ℕ) → quotes n ≡ size s → (n ≤ maxQuotes) × (length s ≡ bytesOf n)
+sizes s n e =
+    go (ltb (length s) countBytes) (ltb maxQuotes u) (eqb (length s) (bytesOf u)) (nltb→le maxQuotes u) (eqb→eq (length s) (bytesOf u)) (e ∙ size-by s u refl)
+  where
+    u : ℕ
+    u = unsigned s 0
+
+    go : (a b w : Bool) → (T (not b) → u ≤ maxQuotes) → (T w → length s ≡ bytesOf u) → quotes n ≡ picked a b w u → (n ≤ maxQuotes) × (length s ≡ bytesOf n)
+    go true b w h g p = never (cc)
+    go false true w h g p = never (cc)
+    go false false false h g p = never (cc)
+    go false false true h g p =
+        let i : n ≡ u = cc in
+        rw i (h tt, g tt)
+
+pub size-count : (s : List ℕ) (n : ℕ) → quotes n ≡ size s → n ≤ maxQuotes
+size-count s n e = sizes s n e .0
+
+pub size-length : (s : List ℕ) (n : ℕ) → quotes n ≡ size s → length s ≡ bytesOf n
+size-length s n e = sizes s n e .1
+
+-- ---- a quote of a sheet
+pub reply-from : (s : List ℕ) (at side : ℕ) (p f k t : Float) {r : Reply}
+    → side ≡ unsigned s at → p ≡ double s (at + priceAt) → f ≡ double s (at + forwardAt) → k ≡ double s (at + strikeAt) → t ≡ double s (at + timeAt)
+    → r ≡ impliedBlackVolatilityInput side p f k t → r ≡ replyFrom s at
+unfolding replyFrom
+reply-from s at side p f k t a b c d e h = h ∙ rw (a, b, c, d, e)
+
+pub quote-none : (s : List ℕ) (i number count : ℕ) → refused number count ≡ size s → quoted (refusal number count) ≡ quotedAt s i
+unfolding quotedAt
+quote-none s i number count e = rw (← e)
+
+module _ (s : List ℕ) (n i : ℕ) (e : quotes n ≡ size s) where
+  pub quote-within : i < n → bytesOf i + quoteBytes ≤ length s
+  quote-within h = omega (arith, size-length s n e)
+
+  pub quote-there : i < n → quoted (replyAt s i) ≡ quotedAt s i
+  unfolding quotedAt
+  quote-there h = rw (← e, lt-ltb i n h)
+
+  pub quote-past : n ≤ i → noQuote ≡ quotedAt s i
+  unfolding quotedAt
+  quote-past h = rw (← e, le-ltb i n h)
+
+  pub quote-below : (r : Reply) → quoted r ≡ quotedAt s i → i < maxQuotes
+  unfolding quotedAt
+  quote-below r q = go (ltb i n) (ltb→lt i n) (rw (← e) at q)
+    where
+      go : (b : Bool) → (T b → i < n) → quoted r ≡ cond b (quoted (replyAt s i)) noQuote → i < maxQuotes
+      go true h q = lt-of-lt-of-le (h tt) (size-count s n e)
+      go false h q = never (cc)
+
+-- ---- of a longer input than any sheet no byte after `inputBytes` changes the text
+long-refused : (s : List ℕ) → inputBytes ≤ length s → noSheet ≡ size s
+long-refused s h = go (ltb maxQuotes (unsigned s 0)) (ltb→lt maxQuotes (unsigned s 0)) (nltb→le maxQuotes (unsigned s 0))
+  where
+    go : (b : Bool) → (T b → maxQuotes < unsigned s 0) → (T (not b) → unsigned s 0 ≤ maxQuotes) → noSheet ≡ size s
+    go true f g = size-many s (unsigned s 0) refl (omega arith) (f tt)
+    go false f g =
+        let few : unsigned s 0 ≤ maxQuotes = g tt in
+        size-other s (unsigned s 0) refl (omega arith) few (λ e. omega arith)
+
+pub text-of-input : (s : List ℕ) → text (take inputBytes s) ≡ text s
+unfolding text
+text-of-input s = go (leb (length s) inputBytes) (leb→le (length s) inputBytes) (nleb→lt (length s) inputBytes)
+  where
+    go : (b : Bool) → (T b → length s ≤ inputBytes) → (T (not b) → inputBytes < length s) → text (take inputBytes s) ≡ text s
+    go true f g = ap text (take-all inputBytes s (f tt))
+    go false f g =
+        let long : inputBytes < length s = g tt in
+        rw (← long-refused s (omega arith), ← long-refused (take inputBytes s) (omega (arith, length-take-le inputBytes s (omega arith))))

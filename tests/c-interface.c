@@ -1,9 +1,9 @@
 /* Calls every function of include/quoter.h.
 
-   usage: c-test             values known from document 01: refusals, the sample sheet, keystrokes
-          c-test vectors     the interface of `vectors` but for signum, max and min
-          c-test lines       the interface of `sheet`, by quoter_sheet_line
-          c-test quotes      the same, by quoter_sheet_size and quoter_sheet_quote
+   usage: c-interface             values known from document 01: refusals, the sample sheet, keystrokes
+          c-interface vectors     the interface of `vectors` but for signum, max and min
+          c-interface lines       the interface of `sheet`, by quoter_sheet_line
+          c-interface quotes      the same, by quoter_sheet_size and quoter_sheet_quote
 
    Exit status 1 where a known value differs. */
 #include "quoter.h"
@@ -361,6 +361,6 @@ int main(int argc, char **argv)
         return lines(sheet, fread(sheet, 1, sizeof sheet, stdin));
     if (strcmp(mode, "quotes") == 0)
         return quotes(sheet, fread(sheet, 1, sizeof sheet, stdin));
-    fputs("usage: c-test [vectors | lines | quotes]\n", stderr);
+    fputs("usage: c-interface [vectors | lines | quotes]\n", stderr);
     return 2;
 }

@@ -1,5 +1,6 @@
 //! Our functions and quotes beside the Rust's in one process, and what they take of the machine.
-//! Columns: ns a call of ours, of the Rust with document 01's stand-ins, of the Rust with the platform's exp and ln, and two ratios.
+//! Columns: ns a call of ours, of the Rust with the stand-ins of docs/REQUIREMENTS.md, of the Rust with the platform's exp and ln, and two
+//! ratios.
 //!
 //! usage: bench TARGET [PICTURE.svg]     TARGET: the folder with staticlib/libexports.a and bin/sheet
 //!        bench --run ours|rust|platform      desk quotes of one of them alone, for callgrind

@@ -1,11 +1,11 @@
 /* Calls every function of include/quoter.h.
 
-   usage: c-test             values known from document 01: refusals, the sample sheet, keystrokes
-          c-test vectors     the interface of `vectors` but for signum, max and min
-          c-test lines       the interface of `sheet`, by quoter_sheet_line
-          c-test quotes      the same, by quoter_sheet_size and quoter_sheet_quote
+   usage: c-interface             values known from docs/REQUIREMENTS.md: refusals, the sample sheet, keystrokes
+          c-interface vectors     the interface of `vectors` but for signum, max and min
+          c-interface lines       the interface of `sheet`, by quoter_sheet_line
+          c-interface quotes      the same, by quoter_sheet_size and quoter_sheet_quote
 
-   Exit status 1 where a known value differs. */
+   Exit status: 0 all well, 1 a known value differs, 2 bad usage. */
 #include "quoter.h"
 
 #include <inttypes.h>
@@ -122,7 +122,7 @@ static void known_replies(void)
     normalised("refusal 9, normalised", 0x1p-1074, 0.5, 9);
 }
 
-/* A quote and the put that document 01 pairs with it: equal totals, equal counts. */
+/* A quote and the put that the requirements pair with it: equal totals, equal counts. */
 static void known_pair(void)
 {
     double total[2] = {UNTOUCHED, UNTOUCHED}, volatility[2];
@@ -155,7 +155,7 @@ static void known_modes(void)
     }
 }
 
-/* Document 01's sample: 3 quotes, and the 4 lines of its text. */
+/* The sample of docs/REQUIREMENTS.md: 3 quotes, and the 4 lines of its text. */
 static const char *LINES[4] = {
     "1 V 0000000000000000 0000000000000000 0\n", "2 V 7ff0000000000000 7ff0000000000000 0\n", "3 R 7 0\n", "T 2 1\n"};
 static uint8_t sample[4 + 36 * 3];
@@ -361,6 +361,6 @@ int main(int argc, char **argv)
         return lines(sheet, fread(sheet, 1, sizeof sheet, stdin));
     if (strcmp(mode, "quotes") == 0)
         return quotes(sheet, fread(sheet, 1, sizeof sheet, stdin));
-    fputs("usage: c-test [vectors | lines | quotes]\n", stderr);
+    fputs("usage: c-interface [vectors | lines | quotes]\n", stderr);
     return 2;
 }

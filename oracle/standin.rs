@@ -1,4 +1,4 @@
-//! Document 01, `Layer one`: exp, ln, ln_1p, max, min, the crossed clamp and powi(2), written from its text.
+//! exp, ln, ln_1p, max, min, the crossed clamp and powi(2) as docs/REQUIREMENTS.md has them, written from its text.
 
 const H: f64 = f64::from_bits(0x3FE62E42FEE00000);
 const L: f64 = f64::from_bits(0x3DEA39EF35793C76);
@@ -141,42 +141,42 @@ pub fn clamp(x: f64, lower: f64, upper: f64) -> f64 {
 
 /// The names that the patched source calls.
 pub trait StandIn {
-    fn exp_01(self) -> f64;
-    fn ln_01(self) -> f64;
-    fn ln_1p_01(self) -> f64;
-    fn max_01(self, other: f64) -> f64;
-    fn min_01(self, other: f64) -> f64;
-    fn clamp_01(self, lower: f64, upper: f64) -> f64;
-    fn squared_01(self) -> f64;
+    fn own_exp(self) -> f64;
+    fn own_ln(self) -> f64;
+    fn own_ln_1p(self) -> f64;
+    fn own_max(self, other: f64) -> f64;
+    fn own_min(self, other: f64) -> f64;
+    fn own_clamp(self, lower: f64, upper: f64) -> f64;
+    fn own_square(self) -> f64;
 }
 
 impl StandIn for f64 {
     #[inline]
-    fn exp_01(self) -> f64 {
+    fn own_exp(self) -> f64 {
         exp(self)
     }
     #[inline]
-    fn ln_01(self) -> f64 {
+    fn own_ln(self) -> f64 {
         ln(self)
     }
     #[inline]
-    fn ln_1p_01(self) -> f64 {
+    fn own_ln_1p(self) -> f64 {
         ln_1p(self)
     }
     #[inline]
-    fn max_01(self, other: f64) -> f64 {
+    fn own_max(self, other: f64) -> f64 {
         max(self, other)
     }
     #[inline]
-    fn min_01(self, other: f64) -> f64 {
+    fn own_min(self, other: f64) -> f64 {
         min(self, other)
     }
     #[inline]
-    fn clamp_01(self, lower: f64, upper: f64) -> f64 {
+    fn own_clamp(self, lower: f64, upper: f64) -> f64 {
         clamp(self, lower, upper)
     }
     #[inline]
-    fn squared_01(self) -> f64 {
+    fn own_square(self) -> f64 {
         self * self
     }
 }

@@ -1,4 +1,4 @@
-//! Document 01's sheet: XDR in, lines out.
+//! The sheet of docs/REQUIREMENTS.md: XDR in, lines out.
 
 use crate::quote::{Outcome, quote};
 use std::fmt::Write;

@@ -1,4 +1,5 @@
-//! Document 01's entries around the source's own two: tests 1 to 4 before the call, a `None` as one of 5 to 9, departure two after it.
+//! The entries of docs/REQUIREMENTS.md around the source's own two: tests 1 to 4 before the call, a `None` as one of 5 to 9, departure two
+//! after it.
 
 use crate::DefaultSpecialFn;
 use crate::evaluations::counted;
@@ -38,7 +39,7 @@ fn first_refusal(side: u32, price: f64, forward: f64, strike: f64, time: f64) ->
     (time < 0.0).then_some(4)
 }
 
-/// Whether document 01 has tests 1 to 4 pass: the domain on which the answer is the source's.
+/// Whether tests 1 to 4 pass: the domain on which the requirements have the source's answer.
 pub fn on_domain(side: u32, price: f64, forward: f64, strike: f64, time: f64) -> bool {
     first_refusal(side, price, forward, strike, time).is_none()
 }

@@ -573,7 +573,7 @@ fn quantile_pair(rng: &mut Rng) -> [f64; 2] {
     }
 }
 
-/// Document 01's keystrokes and examples, and for more arguments than one the signs, infinities and NaN together.
+/// The requirements' keystrokes and examples, and for more arguments than one the signs, infinities and NaN together.
 fn keystrokes(function: u32) -> Vec<[f64; 3]> {
     let tiny = power(-1074);
     let mut list = match function {
@@ -918,7 +918,7 @@ fn doubled() -> [Quote; 4] {
     ]
 }
 
-/// Document 01's quotes: the sample sheet, the table's examples with one for 8, and the keystrokes.
+/// The quotes of docs/REQUIREMENTS.md: the sample sheet, the table's examples with one for 8, and the keystrokes.
 fn examples() -> Vec<Quote> {
     let tiny = power(-1074);
     vec![
@@ -1003,7 +1003,7 @@ pub fn kept(seed: u64) -> Vec<Quote> {
 }
 
 /// Every combination of a side, a forward, a strike and a time at an edge with a price at an edge or next to a branch of that quote; all
-/// are on document 01's domain.
+/// are on the requirements' domain.
 pub fn corners() -> impl Iterator<Item = Quote> {
     let above: Vec<f64> = edges().into_iter().filter(|&x| x.is_finite() && x > 0.0).collect();
     let times = [0.0, -0.0, power(-1074), f64::MIN_POSITIVE, 0.25, 1.0, 2.0, f64::MAX];

@@ -238,7 +238,7 @@ impl Seen {
     }
 }
 
-/// Compares quotes until `count` on document 01's domain were compared; the corners only once.
+/// Compares quotes until `count` on the requirements' domain were compared; the corners only once.
 #[cfg(quotes)]
 fn quotes(kind: &str, count: u64, seed: u64) -> (u64, Seen) {
     let source: Box<dyn Iterator<Item = Quote>> = match KINDS.iter().position(|&name| name == kind) {
@@ -330,9 +330,10 @@ fn standins(count: u64, seed: u64) {
 fn usage() -> ! {
     eprintln!(
         "usage: harness FUNCTION COUNT SEED        a function of vectors (1 to 21), a search (22, 23), or `all`
-       harness quotes KIND COUNT SEED     COUNT on document 01's domain; KIND: {CORNERS}, {} or all
+       harness quotes KIND COUNT SEED     COUNT on the requirements' domain; KIND: {CORNERS}, {} or all
        harness pairs COUNT SEED           scaled and exchanged pairs against each other
-       harness standins COUNT SEED        document 01's exp, ln, ln_1p beside the platform's; nothing is asked of them",
+       harness standins COUNT SEED        the requirements' exp, ln, ln_1p beside the platform's; nothing is asked of them
+Exit status: 0 no difference, 1 some, 2 bad usage.",
         KINDS.join(", ")
     );
     exit(2)

@@ -1,4 +1,4 @@
-//! The oracle: the Rust source as `build` patches it, with document 01's stand-ins, refusals and counts around it.
+//! The oracle: the Rust source as `build` patches it, with the stand-ins, refusals and counts of docs/REQUIREMENTS.md.
 
 pub mod explicit_black;
 pub mod fused_multiply_add;

@@ -11,10 +11,11 @@ use std::process::exit;
 
 fn usage() -> ! {
     eprintln!(
-        "usage: generate vectors FUNCTION COUNT SEED   records of one function (1 to 21): its edges, then drawn ones
-       generate sample FUNCTION COUNT SEED    the same, half edges spread evenly, half drawn
-       generate sheet KIND COUNT SEED         a sheet of quotes; KIND: {} or mixed
-       generate kept SEED                     the sheet that the repository keeps: 1,000 quotes, document 01's first",
+        "usage: oracle/generate vectors FUNCTION COUNT SEED   records of one function (1 to 21): its edges, then drawn ones
+       oracle/generate sample FUNCTION COUNT SEED    the same, half edges spread evenly, half drawn
+       oracle/generate sheet KIND COUNT SEED         a sheet of quotes; KIND: {} or mixed
+       oracle/generate kept SEED                     the sheet that the repository keeps: 1,000 quotes, the requirements' first
+Exit status: 0 written; 1 it could not be written or built; 2 bad usage; 4 rustc is not there.",
         KINDS.join(", ")
     );
     exit(2)

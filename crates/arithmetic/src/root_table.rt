@@ -1,4 +1,4 @@
-// The table of `sqrt::estimate`, printed by tools/root-table. No proof asks anything of its numbers.
+// The table of `sqrt::estimate`, printed by dev/root-table. No proof asks anything of its numbers.
 // 16 intervals of equal length cover [1/2, 1), and 16 cover [1, 2); s is the root of an interval's middle to 24 binary
 // digits. A `match` is compiled to a table of constants, where an array would be stored to the stack at each call.
 

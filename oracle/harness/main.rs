@@ -174,10 +174,7 @@ fn function(number: u32, count: u64, seed: u64) -> u64 {
         let input = if number > 21 && i % 8 == 7 { met(number, &mut rng) } else { inputs.next() };
         let [a, b, c] = input.map(f64::to_bits);
         CURRENT.with(|current| current.set([number as u64, a, b, c, 0]));
-        let Some(ours) = ours::reply(number, input) else {
-            println!("{number} {}: not there", name(number));
-            return 0;
-        };
+        let ours = ours::reply(number, input);
         let theirs = oracle_reply(number, input);
         tally.compare(&[a, b, c], ours, theirs);
         if theirs.count() > most.0 {
@@ -239,7 +236,6 @@ impl Seen {
 }
 
 /// Compares quotes until `count` on the requirements' domain were compared; the corners only once.
-#[cfg(quotes)]
 fn quotes(kind: &str, count: u64, seed: u64) -> (u64, Seen) {
     let source: Box<dyn Iterator<Item = Quote>> = match KINDS.iter().position(|&name| name == kind) {
         Some(i) => {
@@ -264,12 +260,6 @@ fn quotes(kind: &str, count: u64, seed: u64) -> (u64, Seen) {
     (differ, seen)
 }
 
-#[cfg(not(quotes))]
-fn quotes(kind: &str, _: u64, _: u64) -> (u64, Seen) {
-    println!("quotes, {kind}: not there");
-    (0, Seen::new())
-}
-
 fn every_quote(count: u64, seed: u64) -> u64 {
     let runs = [CORNERS].into_iter().chain(KINDS).map(|kind| quotes(kind, count, seed));
     let (differ, seen) = runs.reduce(|(d, all), (e, seen)| (d + e, all.join(seen))).unwrap();
@@ -290,10 +280,7 @@ fn pairs(count: u64, seed: u64) -> u64 {
                 Reply::Answer { total, count, .. } => Reply::Answer { total, volatility: 0, count },
                 refusal => refusal,
             };
-            #[cfg(quotes)]
             let answer = |q: Quote| ours::quotes::quote(q.side, q.price, q.forward, q.strike, q.time);
-            #[cfg(not(quotes))]
-            let answer = oracle_quote;
             tally.compare(&[input_of(q), input_of(other)].concat(), untimed(answer(q)), untimed(answer(other)));
         }
         differ += tally.end();

@@ -1,28 +1,19 @@
-//! Our code behind one interface: what each crate that is there answers.
+//! Our code behind one interface.
 
 use crate::Reply;
 
-/// Our answer to a function of `vectors` (1 to 21) or of the searches (22, 23); none where its layer is not there.
-pub fn reply(function: u32, [a, b, c]: [f64; 3]) -> Option<Reply> {
-    let _ = (a, b, c);
+/// Our answer to a function of `vectors` (1 to 21) or of the searches (22, 23).
+pub fn reply(function: u32, [a, b, c]: [f64; 3]) -> Reply {
     match function {
-        #[cfg(layer1)]
-        1..=9 => Some(Reply::value(layer1(function, a, b, c))),
-        #[cfg(layer2)]
-        10..=16 => Some(Reply::value(layer2(function, a))),
-        #[cfg(layer3)]
-        17 => Some(Reply::value(ours::bs_option_price::normalised_black(a, b, c))),
-        #[cfg(layer3)]
-        18 => Some(Reply::value(ours::bs_option_price::negative_abs_log_moneyness(a, b))),
-        #[cfg(quotes)]
-        19 => Some(quotes::normalised(a, b)),
-        #[cfg(layer4)]
-        20..=23 => Some(layer4::reply(function, a, b)),
-        _ => None,
+        1..=9 => Reply::value(layer1(function, a, b, c)),
+        10..=16 => Reply::value(layer2(function, a)),
+        17 => Reply::value(ours::bs_option_price::normalised_black(a, b, c)),
+        18 => Reply::value(ours::bs_option_price::negative_abs_log_moneyness(a, b)),
+        19 => quotes::normalised(a, b),
+        _ => layer4::reply(function, a, b),
     }
 }
 
-#[cfg(layer1)]
 fn layer1(function: u32, a: f64, b: f64, c: f64) -> f64 {
     use ours::arithmetic::{basic, exp, ln, mul_add, sqrt};
     match function {
@@ -38,7 +29,6 @@ fn layer1(function: u32, a: f64, b: f64, c: f64) -> f64 {
     }
 }
 
-#[cfg(layer2)]
 fn layer2(function: u32, a: f64) -> f64 {
     use ours::special_function::{error_function, normal_distribution};
     match function {
@@ -52,7 +42,6 @@ fn layer2(function: u32, a: f64) -> f64 {
     }
 }
 
-#[cfg(layer4)]
 mod layer4 {
     use crate::Reply;
     use ours::explicit_black::counted::Quantile;
@@ -94,7 +83,6 @@ mod layer4 {
     }
 }
 
-#[cfg(quotes)]
 pub mod quotes {
     include!("quotes.rs");
 }

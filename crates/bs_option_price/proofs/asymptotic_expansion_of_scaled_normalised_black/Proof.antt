@@ -1,4 +1,4 @@
--- What each call ensures, put in.
+-- Straight: the operations are the definition's. Assumes nothing.
 use Rattle.bs_option_price.specs.BsOptionPrice.{asymptoticExpansionOfScaledNormalisedBlack}
 use Rattle.bs_option_price.proofs.asymptotic_expansion_of_scaled_normalised_black.Tie as tie
 use Rattle.bs_option_price.proofs.asymptotic_expansion_of_scaled_normalised_black.Statement.{
@@ -7,12 +7,7 @@ use Rattle.bs_option_price.proofs.asymptotic_expansion_of_scaled_normal
 
 returns : tie.Need-returns
 unfolding asymptoticExpansionOfScaledNormalisedBlack
-returns c = rw (
-  c .omega .ensures,
-  c .before .tail .ensures,
-  c .before .before .position .ensures,
-  c .before .before .before .mul-add2-sel .ensures,
-)
+returns c = cc
 
 pub asymptotic-expansion-of-scaled-normalised-black-spec : {M : Type 1} → statement M
 asymptotic-expansion-of-scaled-normalised-black-spec =

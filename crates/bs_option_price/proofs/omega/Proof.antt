@@ -1,4 +1,4 @@
--- What each call ensures, put in.
+-- Straight: the operations are the definition's. Assumes nothing.
 use borrow.Author.Needs.{needs}
 use Rattle.bs_option_price.specs.BsOptionPrice.{omega}
 use Rattle.bs_option_price.proofs.omega.Tie as tie
@@ -6,14 +6,7 @@ use Rattle.bs_option_price.proofs.omega.Statement.{statement}
 
 returns : tie.Need-returns
 unfolding omega
-returns c = rw (
-  c .nested .ensures,
-  c .before .before .a5 .ensures,
-  c .before .before .before .a4 .ensures,
-  c .before .before .before .before .a3 .ensures,
-  c .before .before .before .before .before .a2 .ensures,
-  c .before .before .before .before .before .before .a .ensures,
-)
+returns c = cc
 
 pub omega-spec : {M : Type 1} → statement M
 omega-spec =

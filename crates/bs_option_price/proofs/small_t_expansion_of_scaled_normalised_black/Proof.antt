@@ -1,4 +1,4 @@
--- What each call ensures, put in.
+-- Straight: the operations are the definition's. Assumes nothing.
 use borrow.Author.Needs.{needs}
 use Rattle.bs_option_price.specs.BsOptionPrice.{smallTExpansionOfScaledNormalisedBlack}
 use Rattle.bs_option_price.proofs.small_t_expansion_of_scaled_normalised_black.Tie as tie
@@ -8,17 +8,7 @@ use Rattle.bs_option_price.proofs.small_t_expansion_of_scaled_normalise
 
 returns : tie.Need-returns
 unfolding smallTExpansionOfScaledNormalisedBlack
-returns c = rw (
-  c .nested .ensures,
-  c .before .before .b0 .ensures,
-  c .before .before .before .b1 .ensures,
-  c .before .before .before .before .b2 .ensures,
-  c .before .before .before .before .before .b3 .ensures,
-  c .before .before .before .before .before .before .b4 .ensures,
-  c .before .before .before .before .before .before .before .b5 .ensures,
-  c .before .before .before .before .before .before .before .before .b6 .ensures,
-  c .before .before .before .before .before .before .before .before .before .y-prime .ensures,
-)
+returns c = cc
 
 pub small-t-expansion-of-scaled-normalised-black-spec : {M : Type 1} → statement M
 small-t-expansion-of-scaled-normalised-black-spec =

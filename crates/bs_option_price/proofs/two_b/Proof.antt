@@ -1,50 +1,35 @@
--- One way out for each pair of tests.
+-- The tests that led to each return pick the definition's case. Assumes nothing.
 use Rattle.bs_option_price.specs.BsOptionPrice.{twoB}
 use Rattle.bs_option_price.proofs.two_b.Tie as tie
 use Rattle.bs_option_price.proofs.two_b.Statement.{statement}
 
 returns : tie.Need-returns
 unfolding twoB
-returns c = rw (
-  c .mul-add2-sel .ensures,
-  c .before .erfc-cody2 .ensures,
-  c .before .before .exp2 .ensures,
-  c .before .before .before .erfc-cody .ensures,
-  c .before .before .before .before .exp .ensures,
-  c .before .before .before .before .before .if2 .taken,
-  c .before .before .before .before .before .before .if1 .taken,
-)
+returns c =
+    let after-exp-2 = c .before .before in
+    let after-exp-1 = after-exp-2 .before .before in
+    let at-q2 = after-exp-1 .before in
+    rw (at-q2 .before .if1 .taken, at-q2 .if2 .taken) cc
 
 returns-2 : tie.Need-returns-2
 unfolding twoB
-returns-2 c = rw (
-  c .mul-add2-sel2 .ensures,
-  c .before .erfcx-cody .ensures,
-  c .before .before .erfc-cody3 .ensures,
-  c .before .before .before .exp3 .ensures,
-  c .before .before .before .before .if2 .left,
-  c .before .before .before .before .before .if1 .taken,
-)
+returns-2 c =
+    let after-erfc-q1 = c .before .before in
+    let at-q2 = after-erfc-q1 .before .before in
+    rw (at-q2 .before .if1 .taken, at-q2 .if2 .left) cc
 
 returns-3 : tie.Need-returns-3
 unfolding twoB
-returns-3 c = rw (
-  c .mul-add2-sel3 .ensures,
-  c .before .erfc-cody4 .ensures,
-  c .before .before .exp4 .ensures,
-  c .before .before .before .erfcx-cody2 .ensures,
-  c .before .before .before .before .if3 .taken,
-  c .before .before .before .before .before .if1 .left,
-)
+returns-3 c =
+    let after-exp = c .before .before in
+    let at-q2 = after-exp .before .before in
+    rw (at-q2 .before .if1 .left, at-q2 .if3 .taken) cc
 
 returns-4 : tie.Need-returns-4
 unfolding twoB
-returns-4 c = rw (
-  c .erfcx-cody4 .ensures,
-  c .before .erfcx-cody3 .ensures,
-  c .before .before .if3 .left,
-  c .before .before .before .if1 .left,
-)
+returns-4 c =
+    let at-q2 = c .before .before in
+    rw (at-q2 .before .if1 .left, at-q2 .if3 .left) cc
 
 pub two-b-spec : {M : Type 1} → statement M
 two-b-spec =

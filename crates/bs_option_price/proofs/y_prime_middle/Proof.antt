@@ -1,4 +1,4 @@
--- What each call ensures, put in.
+-- Straight: the operations are the definition's. Assumes nothing.
 use borrow.Author.Needs.{needs}
 use Rattle.bs_option_price.specs.BsOptionPrice.{yPrimeMiddle}
 use Rattle.bs_option_price.proofs.y_prime_middle.Tie as tie
@@ -6,12 +6,7 @@ use Rattle.bs_option_price.proofs.y_prime_middle.Statement.{statement}
 
 returns : tie.Need-returns
 unfolding yPrimeMiddle
-returns c = rw (
-  c .evaluate2 .ensures,
-  c .before .before .mul-add2-sel2 .ensures,
-  c .before .before .before .evaluate .ensures,
-  c .before .before .before .before .before .mul-add2-sel .ensures,
-)
+returns c = cc
 
 pub y-prime-middle-spec : {M : Type 1} → statement M
 y-prime-middle-spec =

@@ -1,4 +1,4 @@
--- What each call ensures, put in.
+-- Straight: the operations are the definition's. Assumes nothing.
 use borrow.Author.Needs.{needs}
 use Rattle.bs_option_price.specs.BsOptionPrice.{yPrimeTailExpansionRationalFunctionPartPlus1}
 use Rattle.bs_option_price.proofs.y_prime_tail_expansion_rational_function_part_plus_1.Tie as tie
@@ -8,10 +8,7 @@ use Rattle.bs_option_price.proofs.y_prime_tail_expansion_rational_funct
 
 returns : tie.Need-returns
 unfolding yPrimeTailExpansionRationalFunctionPartPlus1
-returns c = rw (
-  c .mul-add2-sel .ensures,
-  c .before .rational .ensures,
-)
+returns c = cc
 
 pub y-prime-tail-expansion-rational-function-part-plus-1-spec : {M : Type 1} → statement M
 y-prime-tail-expansion-rational-function-part-plus-1-spec =

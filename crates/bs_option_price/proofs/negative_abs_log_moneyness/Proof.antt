@@ -10,7 +10,7 @@ unfolding negativeAbsLogMoneyness
 returns c =
     let at-half = c .before in
     let after-max = at-half .before in
-    rw (← after-max .max .ensures, ← after-max .before .min .ensures, at-half .if1 .taken) cc
+    rw (← after-max .max .ensures, ← after-max .before .min .ensures, c .ln-1p .ensures, at-half .if1 .taken)
 
 returns-2 : tie.Need-returns-2
 unfolding negativeAbsLogMoneyness
@@ -18,7 +18,7 @@ returns-2 c =
     let at-ratio = c .before in
     let at-half = at-ratio .before in
     let after-max = at-half .before in
-    rw (← after-max .max .ensures, ← after-max .before .min .ensures, at-half .if1 .left, at-ratio .if2 .taken) cc
+    rw (← after-max .max .ensures, ← after-max .before .min .ensures, c .ln .ensures, at-ratio .if2 .taken, at-half .if1 .left)
 
 returns-3 : tie.Need-returns-3
 unfolding negativeAbsLogMoneyness
@@ -26,7 +26,14 @@ returns-3 c =
     let at-ratio = c .before .before in
     let at-half = at-ratio .before in
     let after-max = at-half .before in
-    rw (← after-max .max .ensures, ← after-max .before .min .ensures, at-half .if1 .left, at-ratio .if2 .left) cc
+    rw (
+      ← after-max .max .ensures,
+      ← after-max .before .min .ensures,
+      c .ln3 .ensures,
+      c .before .ln2 .ensures,
+      at-ratio .if2 .left,
+      at-half .if1 .left,
+    )
 
 pub negative-abs-log-moneyness-spec : {M : Type 1} → statement M
 negative-abs-log-moneyness-spec =

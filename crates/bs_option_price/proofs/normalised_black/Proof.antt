@@ -32,7 +32,13 @@ unfolding normalisedBlack
 returns-2 c =
     let at-region1 = c .before .before in
     let after-is-region1 = at-region1 .before in
-    rw (not-at-once (after-is-region1 .before), ← after-is-region1 .is-region1 .ensures, at-region1 .if3 .taken) cc
+    rw (
+      not-at-once (after-is-region1 .before),
+      ← after-is-region1 .is-region1 .ensures,
+      at-region1 .if3 .taken,
+      c .normalised-vega .ensures,
+      c .before .asymptotic-expansion-of-scaled-normalised-black .ensures,
+    )
 
 returns-3 : tie.Need-returns-3
 unfolding normalisedBlack
@@ -45,7 +51,9 @@ returns-3 c =
       not-region1 at-region1,
       ← after-is-region2 .is-region2 .ensures,
       at-region2 .if4 .taken,
-    ) cc
+      c .normalised-vega2 .ensures,
+      c .before .small-t-expansion-of-scaled-normalised-black .ensures,
+    )
 
 returns-4 : tie.Need-returns-4
 unfolding normalisedBlack
@@ -57,7 +65,8 @@ returns-4 c =
       not-region1 at-region1,
       ← after-is-region2 .is-region2 .ensures,
       c .before .if4 .left,
-    ) cc
+      c .normalised-black-with-optimal-use-of-codys-functions .ensures,
+    )
 
 pub normalised-black-spec : {M : Type 1} → statement M
 normalised-black-spec =

@@ -1,4 +1,4 @@
--- Straight: the operations are the definition's. Assumes nothing.
+-- Straight: what each call ensures is the definition's. Assumes nothing.
 use Rattle.bs_option_price.specs.BsOptionPrice.{normalisedBlackWithOptimalUseOfCodysFunctions}
 use Rattle.bs_option_price.proofs.normalised_black_with_optimal_use_of_codys_functions.Tie as tie
 use Rattle.bs_option_price.proofs.normalised_black_with_optimal_use_of_codys_functions.Statement.{
@@ -7,7 +7,11 @@ use Rattle.bs_option_price.proofs.normalised_black_with_optimal_use_of_
 
 returns : tie.Need-returns
 unfolding normalisedBlackWithOptimalUseOfCodysFunctions
-returns c = cc
+returns c = rw (
+  c .normalised-black-with-optimal-use-of-codys-functions-impl .ensures,
+  c .before .exp .ensures,
+  c .before .before .mul-add2-sel .ensures,
+)
 
 pub normalised-black-with-optimal-use-of-codys-functions-spec : {M : Type 1} → statement M
 normalised-black-with-optimal-use-of-codys-functions-spec =

@@ -1,4 +1,4 @@
--- Straight: the operations are the definition's. Assumes nothing.
+-- Straight: what each call ensures is the definition's. Assumes nothing.
 use Rattle.bs_option_price.specs.BsOptionPrice.{normalisedBlackWithOptimalUseOfCodysFunctionsImpl}
 use Rattle.bs_option_price.proofs.normalised_black_with_optimal_use_of_codys_functions_impl.Tie as tie
 use Rattle.bs_option_price.proofs.normalised_black_with_optimal_use_of_codys_functions_impl.Statement.{
@@ -7,7 +7,10 @@ use Rattle.bs_option_price.proofs.normalised_black_with_optimal_use_of_
 
 returns : tie.Need-returns
 unfolding normalisedBlackWithOptimalUseOfCodysFunctionsImpl
-returns c = cc
+returns c = rw (
+  c .max .ensures,
+  c .before .two-b .ensures,
+)
 
 pub normalised-black-with-optimal-use-of-codys-functions-impl-spec : {M : Type 1} → statement M
 normalised-black-with-optimal-use-of-codys-functions-impl-spec =

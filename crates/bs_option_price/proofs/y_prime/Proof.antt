@@ -6,19 +6,24 @@ use Rattle.bs_option_price.proofs.y_prime.Statement.{statement}
 returns : tie.Need-returns
 unfolding yPrime
 returns c =
-    rw (c .before .before .if1 .taken) cc
+    let after-recip = c .before in
+    rw (
+      ← after-recip .recip .ensures,
+      c .y-prime-tail-expansion-rational-function-part-plus-1 .ensures,
+      after-recip .before .if1 .taken,
+    )
 
 returns-2 : tie.Need-returns-2
 unfolding yPrime
 returns-2 c =
-    let at-second-test = c .before in
-    rw (at-second-test .before .if1 .left, at-second-test .if2 .taken) cc
+    let at-test-2 = c .before in
+    rw (c .y-prime-middle .ensures, at-test-2 .if2 .taken, at-test-2 .before .if1 .left)
 
 returns-3 : tie.Need-returns-3
 unfolding yPrime
 returns-3 c =
-    let at-second-test = c .before .before in
-    rw (at-second-test .before .if1 .left, at-second-test .if2 .left) cc
+    let at-test-2 = c .before .before in
+    rw (c .mul-add2-sel .ensures, c .before .erfcx-cody .ensures, at-test-2 .if2 .left, at-test-2 .before .if1 .left)
 
 pub y-prime-spec : {M : Type 1} → statement M
 y-prime-spec =

@@ -1,4 +1,4 @@
--- Straight: the operations are the definition's. Assumes nothing.
+-- Straight: what each call ensures is the definition's. Assumes nothing.
 use borrow.Author.Needs.{needs}
 use Rattle.bs_option_price.specs.BsOptionPrice.{yPrimeTailExpansionRationalFunctionPartPlus1}
 use Rattle.bs_option_price.proofs.y_prime_tail_expansion_rational_function_part_plus_1.Tie as tie
@@ -8,7 +8,10 @@ use Rattle.bs_option_price.proofs.y_prime_tail_expansion_rational_funct
 
 returns : tie.Need-returns
 unfolding yPrimeTailExpansionRationalFunctionPartPlus1
-returns c = cc
+returns c = rw (
+  c .mul-add2-sel .ensures,
+  c .before .rational .ensures,
+)
 
 pub y-prime-tail-expansion-rational-function-part-plus-1-spec : {M : Type 1} → statement M
 y-prime-tail-expansion-rational-function-part-plus-1-spec =

@@ -1,12 +1,12 @@
--- The asymptotic expansion: the rows of the table, and the tail, term by term.
+-- The asymptotic expansion: a row of the table is a polynomial of the source, and the tail is summed step by step. Assumes nothing.
 use mathlib.Core.Path.{_≡_, sym, ap}
 use Prim.Native.Nat.{ℕ, suc, _-_, _<_}
 use borrow.Author.Tests.{lt-ltb}
 use lib.Ieee.{Float}
 use Rattle.arithmetic.specs.Operations.{_⊗_, plusZero}
 use Rattle.special_function.specs.Polynomial.{nested}
-use Rattle.bs_option_price.specs.Table.{row}
-use Rattle.bs_option_price.specs.BsOptionPrice.{a, term, omegaOverQ, tail}
+use Rattle.bs_option_price.specs.Table.{row, a}
+use Rattle.bs_option_price.specs.BsOptionPrice.{term, omegaOverQ, tail}
 
 pub row-at : (n k : ℕ) (e : Float) → k ≡ n → nested e (row n) ≡ a k e
 unfolding a

@@ -1,2 +1,3 @@
+-- Laws that only the proofs of this crate need.
 pub mod Thresholds
 pub mod Expansion

@@ -1,4 +1,4 @@
--- The first entry above a value, counted place by place: p is the answer, and i entries are passed.
+-- The index of the first entry above a value, by a search that has passed i entries: p is the answer. Assumes nothing.
 use mathlib.Core.Path.{_≡_}
 use mathlib.Core.Bool.{true, false}
 use mathlib.Core.List.{List}
@@ -16,7 +16,8 @@ unfolding firstAbove
 here value l i h above = rw (drop-cons l i nan h, above)
 
 later :
-    (value : Float) (l : List Float) (i : ℕ) → i < length l → lt value (getD l i nan) ≡ false → firstAbove value (drop i l) ≡ suc (firstAbove value (drop (i + 1) l))
+    (value : Float) (l : List Float) (i : ℕ) → i < length l → lt value (getD l i nan) ≡ false
+    → firstAbove value (drop i l) ≡ suc (firstAbove value (drop (i + 1) l))
 unfolding firstAbove
 later value l i h below = rw (drop-cons l i nan h, below, add-one)
 

@@ -11,7 +11,7 @@ use Rattle.arithmetic.specs.Ln.{ln, ln1p}
 use Rattle.special_function.specs.Constants.{frac1Sqrt2Pi, sqrtPiOver2}
 use Rattle.special_function.specs.ErrorFunction.{erfcCody, erfcxCody}
 use Rattle.special_function.specs.Polynomial.{evaluate, nested}
-use Rattle.bs_option_price.specs.Table.{row}
+use Rattle.bs_option_price.specs.Table.{a}
 
 -- ---- constants
 
@@ -33,12 +33,6 @@ unfoldable pub isRegion2 : Float → Float → Bool
 isRegion2 h t = lt (mulAdd2Sel h (neg half ⊘ eta) (neg tau ⊕ t)) plusZero
 
 -- ---- the asymptotic expansion
-
--- the source's a0 to a16. Its polynomials here are written `z.mul_add2_sel(c, d)`, then `.mul_add2_sel(z, ..)` for each coefficient that
--- is left: by `nested-chain` that is `nested`
-unfoldable pub a : ℕ → Float → Float
-unfolding row
-a k e = nested e (row k)
 
 unfoldable pub thresholds : List Float
 thresholds =
@@ -155,7 +149,9 @@ b1 a h2 = mulAdd2Sel a (bits 0x4008_0000_0000_0000 ⊕ h2) (neg (bits 0x3FF0_000
 
 -- ([10.0 + h2, 15.0] · a + (-7.0 - h2)) / 60.0, a bracket being a polynomial of h2
 unfoldable pub b2 : Float → Float → Float
-b2 a h2 = mulAdd2Sel (nested h2 ((bits 0x4024_0000_0000_0000 ⊕ h2) ∷ bits 0x402E_0000_0000_0000 ∷ [])) a (neg (bits 0x401C_0000_0000_0000) ⊖ h2) ⊘ bits 0x404E_0000_0000_0000
+b2 a h2 =
+    mulAdd2Sel (nested h2 ((bits 0x4024_0000_0000_0000 ⊕ h2) ∷ bits 0x402E_0000_0000_0000 ∷ [])) a (neg (bits 0x401C_0000_0000_0000) ⊖ h2)
+    ⊘ bits 0x404E_0000_0000_0000
 
 -- what b3 to b6 share: a polynomial of h2 times a, plus another, over a divisor
 unfoldable pub b : Float → Float → List Float → List Float → Float → Float
@@ -189,8 +185,10 @@ b5 a h2 =
 abbrev pub b6 : Float → Float → Float
 b6 a h2 =
     b a h2
-    ((bits 0x4053_8000_0000_0000 ⊕ h2) ∷ bits 0x40A0_C200_0000_0000 ∷ bits 0x40D9_2300_0000_0000 ∷ bits 0x4100_7EF8_0000_0000 ∷ bits 0x4110_7EF8_0000_0000 ∷ bits 0x4100_7EF8_0000_0000 ∷ [])
-    ((neg (bits 0x4052_C000_0000_0000) ⊖ h2) ∷ neg (bits 0x409E_1800_0000_0000) ∷ neg (bits 0x40D3_E480_0000_0000) ∷ neg (bits 0x40F4_39D0_0000_0000) ∷ neg (bits 0x40F5_BDF0_0000_0000) ∷ [])
+    ((bits 0x4053_8000_0000_0000 ⊕ h2) ∷ bits 0x40A0_C200_0000_0000 ∷ bits 0x40D9_2300_0000_0000 ∷ bits 0x4100_7EF8_0000_0000
+    ∷ bits 0x4110_7EF8_0000_0000 ∷ bits 0x4100_7EF8_0000_0000 ∷ [])
+    ((neg (bits 0x4052_C000_0000_0000) ⊖ h2) ∷ neg (bits 0x409E_1800_0000_0000) ∷ neg (bits 0x40D3_E480_0000_0000)
+    ∷ neg (bits 0x40F4_39D0_0000_0000) ∷ neg (bits 0x40F5_BDF0_0000_0000) ∷ [])
     (bits 0x41E7_328C_C000_0000)
 
 -- the polynomial of t² with coefficients b6 to b0, times t

@@ -1,3 +1,4 @@
 -- Facts about the definitions, which the proofs here and the crates above cite.
+pub mod Constants
 pub mod Table
 pub mod Moneyness

@@ -1,11 +1,12 @@
--- The coefficients of a0 to a16, and the rule that they follow. Definitions only.
+-- The polynomials a0 to a16 of the asymptotic expansion by their coefficients, and the rule that these follow. Definitions only.
 use Prim.Native.Nat.{ℕ, zero, suc, _+_, _-_, _*_, _/_, _%_, _^_}
-use mathlib.Core.Bool.{Bool, true, false, _&&_, Bool·beq}
+use mathlib.Core.Bool.{Bool, false, _&&_, Bool·beq}
 use mathlib.Core.List.{List, [], _∷_, map}
 use lib.Dec.{leb, eqb}
 use lib.Ieee.{Float, nan, inf, fin, up, down, ofBits, binary64, round, toBits}
 use lib.ListN.{take, drop, getD}
 use Rattle.arithmetic.specs.Operations.{bits}
+use Rattle.special_function.specs.Polynomial.{nested}
 
 -- the source's 153 literals as bit patterns: a0 first, and each ak from its highest coefficient down
 unfoldable pub patterns : List ℕ
@@ -65,6 +66,14 @@ table = map bits patterns
 unfoldable pub row : ℕ → List Float
 row k = take (k + 1) (drop (k * (k + 1) / 2) table)
 
+-- The polynomial ak at e. The source writes it `e.mul_add2_sel(c, d)`, then `.mul_add2_sel(e, ..)` for each coefficient that is left: by
+-- `nested-chain` that is `nested`.
+unfoldable pub a : ℕ → Float → Float
+unfolding row
+a k e = nested e (row k)
+
+-- ---- the rule
+
 -- the coefficient of e ^ j in ak
 unfoldable pub coefficient : ℕ → ℕ → Float
 unfolding row table ofBits
@@ -100,7 +109,7 @@ unfoldable pub followsRule : ℕ → ℕ → Bool
 unfolding coefficient exactSize withinTolerance
 followsRule k j = withinTolerance (eqb (k % 2) 1) (exactSize k j) (coefficient k j)
 
--- the pattern of that coefficient, and the pattern of the binary64 nearest to the exact one
+-- the bit pattern of the coefficient of e ^ j in ak, and that of the binary64 nearest to the exact one
 unfoldable pub entry : ℕ → ℕ → ℕ
 unfolding patterns
 entry k j = getD patterns (k * (k + 1) / 2 + (k - j)) 0
@@ -108,18 +117,3 @@ entry k j = getD patterns (k * (k + 1) / 2 + (k - j)) 0
 unfoldable pub nearestEntry : ℕ → ℕ → ℕ
 unfolding exactSize round toBits
 nearestEntry k j = toBits binary64 (round binary64 (eqb (k % 2) 1) (exactSize k j) 1)
-
--- the test passes at each number below n
-unfoldable pub allBelow : ℕ → (ℕ → Bool) → Bool
-allBelow zero test = true
-allBelow (suc n) test = test 0 && allBelow n (λ i. test (suc i))
-
--- the rule at all 153 entries
-unfoldable pub allFollowRule : Bool
-unfolding allBelow followsRule
-allFollowRule = allBelow 17 (λ k. allBelow (suc k) (followsRule k))
-
--- each entry is the nearest
-unfoldable pub allNearest : Bool
-unfolding allBelow entry nearestEntry
-allNearest = allBelow 17 (λ k. allBelow (suc k) (λ j. eqb (entry k j) (nearestEntry k j)))

@@ -1,7 +1,16 @@
 // The normalised Black price and its three formulas, after bs_option_price.rs.
+mod table;
+
 ghost use mathlib.Core.Path.{_≡_};
 ghost use Prim.Native.Nat.{_-_, _<_};
-ghost use Rattle.bs_option_price.specs.BsOptionPrice.{term, normalisedBlack, isRegion1, isRegion2, position, a, tail, omega, asymptoticExpansionOfScaledNormalisedBlack, b0, b1, b2, b, b3, b4, b5, b6, smallTExpansionOfScaledNormalisedBlack, yPrime, yPrimeMiddle, yPrimeTailExpansionRationalFunctionPartPlus1, normalisedBlackWithOptimalUseOfCodysFunctions, normalisedBlackWithOptimalUseOfCodysFunctionsImpl, twoB, normalisedVega, negativeAbsLogMoneyness};
+ghost use Rattle.bs_option_price.specs.Table.{a};
+ghost use Rattle.bs_option_price.specs.BsOptionPrice.{normalisedBlack, isRegion1, isRegion2};
+ghost use Rattle.bs_option_price.specs.BsOptionPrice.{asymptoticExpansionOfScaledNormalisedBlack, position, term, tail, omega};
+ghost use Rattle.bs_option_price.specs.BsOptionPrice.{smallTExpansionOfScaledNormalisedBlack, b0, b1, b2, b, b3, b4, b5, b6};
+ghost use Rattle.bs_option_price.specs.BsOptionPrice.{yPrime, yPrimeMiddle, yPrimeTailExpansionRationalFunctionPartPlus1};
+ghost use Rattle.bs_option_price.specs.BsOptionPrice.{normalisedBlackWithOptimalUseOfCodysFunctions};
+ghost use Rattle.bs_option_price.specs.BsOptionPrice.{normalisedBlackWithOptimalUseOfCodysFunctionsImpl, twoB};
+ghost use Rattle.bs_option_price.specs.BsOptionPrice.{normalisedVega, negativeAbsLogMoneyness};
 use arithmetic::basic::is_infinite;
 use arithmetic::basic::max;
 use arithmetic::basic::min;
@@ -20,6 +29,7 @@ use special_function::error_function::erfcx_cody;
 use special_function::polynomial::evaluate;
 use special_function::polynomial::nested;
 use special_function::polynomial::rational;
+use table::a;
 
 pub fn normalised_black(half_theta_x: f64, h: f64, t: f64) -> f64
     ensures { λ r. ⌜ r ≡ normalisedBlack «half_theta_x» h t ⌝ }
@@ -49,180 +59,6 @@ fn is_region2(h: f64, t: f64) -> bool
 {
     mul_add2_sel(h, -0.5 / ETA, -TAU + t) < 0.0
 }
-
-// a0 to a16, each from its highest coefficient down: ak starts at k * (k + 1) / 2 and has k + 1 entries.
-const TABLE: [f64; 153] = [
-    // a0
-    2.0,
-    // a1
-    -2.0,
-    -6.0,
-    // a2
-    6.0,
-    60.0,
-    30.0,
-    // a3
-    -30.0,
-    -6.3E2,
-    -1.05E3,
-    -2.1E2,
-    // a4
-    2.1E2,
-    7.56E3,
-    2.646E4,
-    1.764E4,
-    1.89E3,
-    // a5
-    -1.89E3,
-    -1.0395E5,
-    -6.237E5,
-    -8.7318E5,
-    -3.1185E5,
-    -2.079E4,
-    // a6
-    2.079E4,
-    1.62162E6,
-    1.486_485E7,
-    3.567_564E7,
-    2.675_673E7,
-    5.94594E6,
-    2.7027E5,
-    // a7
-    -2.7027E5,
-    -2.837_835E7,
-    -3.689_185_5E8,
-    -1.352_701_35E9,
-    -1.739_187_45E9,
-    -8.116_208_1E8,
-    -1.229_728_5E8,
-    -4.05405E6,
-    // a8
-    4.05405E6,
-    5.513_508E8,
-    9.648_639E9,
-    5.017_292_28E10,
-    9.855_395_55E10,
-    7.884_316_44E10,
-    2.508_646_14E10,
-    2.756_754E9,
-    6.891_885E7,
-    // a9
-    -6.891_885E7,
-    -1.178_512_335E10,
-    -2.671_294_626E11,
-    -1.869_906_238_2E12,
-    -5.209_024_520_7E12,
-    -6.366_585_525_3E12,
-    -3.472_683_013_8E12,
-    -8.013_883_878E11,
-    -6.678_236_565E10,
-    -1.309_458_15E9,
-    // a10
-    1.309_458_15E9,
-    2.749_862_115E11,
-    7.837_107_027_75E12,
-    7.105_643_705_16E13,
-    2.664_616_389_435E14,
-    4.618_668_408_354E14,
-    3.848_890_340_295E14,
-    1.522_637_936_82E14,
-    2.664_616_389_435E13,
-    1.741_579_339_5E12,
-    2.749_862_115E10,
-    // a11
-    -2.749_862_115E10,
-    -6.957_151_150_95E12,
-    -2.435_002_902_832_5E14,
-    -2.775_903_309_229_05E15,
-    -1.348_295_893_054_11E16,
-    -3.146_023_750_459_59E16,
-    -3.718_028_068_724_97E16,
-    -2.247_159_821_756_85E16,
-    -6.741_479_465_270_55E15,
-    -9.253_011_030_763_5E14,
-    -4.870_005_805_665E13,
-    -6.324_682_864_5E11,
-    // a12
-    6.324_682_864_5E11,
-    1.897_404_859_35E14,
-    8.000_723_823_592_5E15,
-    1.120_101_335_302_95E17,
-    6.840_618_869_171_588E17,
-    2.067_387_036_016_302E18,
-    3.289_024_830_025_935E18,
-    2.819_164_140_022_23E18,
-    1.292_116_897_510_188_8E18,
-    3.040_275_052_965_15E17,
-    3.360_304_005_908_85E16,
-    1.454_677_058_835E15,
-    1.581_170_716_125E13,
-    // a13
-    -1.581_170_716_125E13,
-    -5.549_909_213_598_75E15,
-    -2.774_954_606_799_375E17,
-    -4.680_423_436_801_613E18,
-    -3.510_317_577_601_209_5E19,
-    -1.333_920_679_488_459_6E20,
-    -2.748_685_036_521_674_2E20,
-    -3.171_559_657_525_009E20,
-    -2.061_513_777_391_255_6E20,
-    -7.410_670_441_602_553E19,
-    -1.404_127_031_040_483_7E19,
-    -1.276_479_119_127_712_5E18,
-    -4.624_924_344_665_625E16,
-    -4.269_160_933_537_5E14,
-    // a14
-    4.269_160_933_537_5E14,
-    1.733_279_339_016_225E17,
-    1.013_968_413_324_491_6E19,
-    2.027_936_826_648_983_3E20,
-    1.832_385_775_507_831_3E21,
-    8.551_133_619_036_546E21,
-    2.215_520_983_114_014E22,
-    3.311_108_282_456_109E22,
-    2.897_219_747_149_095_4E22,
-    1.477_013_988_742_676E22,
-    4.275_566_809_518_273E21,
-    6.663_221_001_846_66E20,
-    5.069_842_066_622_458E19,
-    1.559_951_405_114_602_5E18,
-    1.238_056_670_725_875E16,
-    // a15
-    -1.238_056_670_725_875E16,
-    -5.756_963_518_875_318E18,
-    -3.895_545_314_438_965_5E20,
-    -9.115_576_035_787_18E21,
-    -9.766_688_609_771_979E22,
-    -5.491_049_373_938_467_5E23,
-    -1.747_152_073_525_876E24,
-    -3.283_109_940_361_811E24,
-    -3.720_857_932_410_053E24,
-    -2.553_529_953_614_742E24,
-    -1.048_291_244_115_525_7E24,
-    -2.495_931_533_608_394_5E23,
-    -3.255_562_869_923_992_8E22,
-    -2.103_594_469_797_041_5E21,
-    -5.565_064_734_912_808E19,
-    -3.837_975_679_250_212_5E17,
-    // a16
-    3.837_975_679_250_212_5E17,
-    2.026_451_158_644_112E20,
-    1.570_499_647_949_187E22,
-    4.250_819_047_115_799E23,
-    5.328_705_305_491_592E24,
-    3.552_470_203_661_060_7E25,
-    1.361_780_244_736_74E26,
-    3.142_569_795_546_323E26,
-    4.478_161_958_653_511E26,
-    3.980_588_407_692_009_4E26,
-    2.199_798_856_882_426E26,
-    7.427_892_244_018_582E25,
-    1.480_195_918_192_108_6E25,
-    1.639_601_632_458_951_2E24,
-    9.108_897_958_105_285E22,
-    2.093_999_530_598_916E21,
-    1.266_531_974_152_57E19,
-];
 
 const THRESHOLDS: [f64; 12] = [
     12.347,
@@ -264,34 +100,6 @@ fn position(value: f64) -> usize
         i += 1;
     }
     i
-}
-
-// The source's a0 to a16. A part with fixed ends is compiled to constants; one whose ends are variables would
-// store the whole table to the stack at each call.
-fn a(k: usize, e: f64) -> f64
-    requires { ⌜ k < 17 ⌝ }
-    ensures { λ r. ⌜ r ≡ a k e ⌝ }
-{
-    let table = TABLE;
-    match k {
-        0 => nested(e, &table[0..1]),
-        1 => nested(e, &table[1..3]),
-        2 => nested(e, &table[3..6]),
-        3 => nested(e, &table[6..10]),
-        4 => nested(e, &table[10..15]),
-        5 => nested(e, &table[15..21]),
-        6 => nested(e, &table[21..28]),
-        7 => nested(e, &table[28..36]),
-        8 => nested(e, &table[36..45]),
-        9 => nested(e, &table[45..55]),
-        10 => nested(e, &table[55..66]),
-        11 => nested(e, &table[66..78]),
-        12 => nested(e, &table[78..91]),
-        13 => nested(e, &table[91..105]),
-        14 => nested(e, &table[105..120]),
-        15 => nested(e, &table[120..136]),
-        _ => nested(e, &table[136..153]),
-    }
 }
 
 // One coefficient more, if the position is at most n.

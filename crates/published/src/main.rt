@@ -14,8 +14,8 @@ use special_function::error_function::erf_cody;
 use special_function::error_function::erfc_cody;
 use special_function::error_function::erfcx_cody;
 use special_function::normal_distribution::norm_cdf;
+use text::argument;
 use text::decimals;
-use text::figure;
 use text::number;
 use text::write_line;
 
@@ -39,18 +39,18 @@ fn quantity(number: u64, x: f64) -> f64 {
     }
 }
 
-// Reads a line and writes its value; whether to go on.
-fn turn() -> bool {
+// Reads a line and writes its value; whether that was done.
+fn answer_line() -> bool {
     let mut line = [0u8; 11];
     if io::read_full(libc::STDIN_FILENO, &mut line) < 11 {
         return false;
     }
-    write_line(quantity(number(&line), figure(&line)), decimals(&line))
+    write_line(quantity(number(&line), argument(&line)), decimals(&line))
 }
 
 fn main() {
-    let mut turns = u64::MAX;
-    while turns > 0 && turn() {
-        turns -= 1;
+    let mut lines = u64::MAX;
+    while lines > 0 && answer_line() {
+        lines -= 1;
     }
 }

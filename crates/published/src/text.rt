@@ -1,39 +1,39 @@
-// A line's numbers, and a value as decimal digits.
+// A line of input taken apart, and a value written with so many decimals.
 ghost use Prim.Native.Nat.{_≤_, _<_};
 use arithmetic::basic::trunc;
 use arithmetic::mul_add::mul_add;
 
-// The value of a digit; of another byte its low half.
+// The value of a digit; of another byte its low four bits.
 fn digit(byte: u8) -> u64
     ensures { λ r. ⌜ r < 16 ⌝ }
 {
     (byte % 16) as u64
 }
 
-// The number of two digits.
-fn pair(line: &[u8; 11], at: usize) -> u64
+// The number that two digits write.
+fn two_digits(line: &[u8; 11], at: usize) -> u64
     requires { ⌜ at ≤ 9 ⌝ }
     ensures { λ r. ⌜ r < 256 ⌝ }
 {
     digit(line[at]) * 10 + digit(line[at + 1])
 }
 
-// The number of the quantity.
+// Which quantity the line asks for.
 pub fn number(line: &[u8; 11]) -> u64 {
     digit(line[0])
 }
 
 // The argument: hundredths, divided by 100 and rounded once.
-pub fn figure(line: &[u8; 11]) -> f64 {
-    std::num::nearest_u64_to_f64(pair(line, 2) * 100 + pair(line, 5)) / 100.0
+pub fn argument(line: &[u8; 11]) -> f64 {
+    std::num::nearest_u64_to_f64(two_digits(line, 2) * 100 + two_digits(line, 5)) / 100.0
 }
 
-// How many decimals.
+// How many decimals the table prints.
 pub fn decimals(line: &[u8; 11]) -> u64 {
-    pair(line, 8)
+    two_digits(line, 8)
 }
 
-// 10 to that power, for the three tables; 1 else.
+// 10 to that power, for the numbers of decimals that the three tables have; 1 for any other.
 fn scale(decimals: u64) -> u64
     ensures { λ r. ⌜ (0 < r) × (r ≤ 10000000000) ⌝ }
 {
@@ -58,7 +58,7 @@ fn nearest(x: f64, scale: f64) -> f64 {
     }
 }
 
-// Writes whole, a point in place of the first digit of `part`, and its other digits.
+// Writes `whole`, a point in place of the first digit of `part`, and its other digits.
 fn write_parts(whole: u64, part: u64) -> bool {
     let mut digits = [0u8; 20];
     let count = io::decimal(part, &mut digits);
@@ -68,13 +68,13 @@ fn write_parts(whole: u64, part: u64) -> bool {
         && io::write_all(libc::STDOUT_FILENO, b"\n")
 }
 
-// Writes so many units of the last decimal.
+// Writes a value given in units of the last decimal.
 fn write_units(units: u64, decimals: u64) -> bool {
     let unit = scale(decimals);
     write_parts(units / unit, unit + units % unit)
 }
 
-// Writes value with so many decimals; whether it is no NaN, not below 0 and small enough, and that was done.
+// Writes a value with so many decimals; whether that was done. It is not for a NaN, a value below 0, or one of 2^64 units or more.
 pub fn write_line(value: f64, decimals: u64) -> bool {
     let rounded = nearest(value, std::num::nearest_u64_to_f64(scale(decimals)));
     if rounded > -1.0 {

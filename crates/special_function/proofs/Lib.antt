@@ -1,2 +1,2 @@
--- What only this crate needs: the end of the asymptotic expansion.
+-- Laws that only the proofs of this crate need.
 pub mod AsymptoticSum

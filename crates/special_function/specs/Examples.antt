@@ -21,12 +21,12 @@ use Rattle.special_function.specs.ErrorFunction.{
   erfcxCody,
 }
 
--- the formula of the range above the cut gives a last digit of C, and of 4
+-- the formula of the range above either cut would end in another hexadecimal digit there: in C, and in 4
 pub cuts : (erfcxCody threshold ≡ bits 0x3FE4_39EA_3683_D4CD) × (erfcxCody four ≡ bits 0x3FC1_8932_BF08_E155)
 unfolding erfcxCody erfcxCodyAboveThreshold ab cd pq evaluate exp abs add sub mul div neg lt le ofBits
 cuts = (refl, refl)
 
--- erfc is 0 from 26.543 up, and erfcx the largest value below XNEG
+-- erfc is 0 from 26.543 up and not at the value before it; erfcx is the largest finite value below XNEG and less at XNEG
 pub ends : (erfcCody xbig ≡ plusZero)
     × (erfcCody (bits 0x403A_8B02_0C49_BA5D) ≡ bits 0x0010_38A0_55F6_D6BA)
     × (erfcxCody xneg ≡ bits 0x7FEF_FFFF_FFFF_5840)

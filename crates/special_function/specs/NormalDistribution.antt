@@ -12,7 +12,7 @@ use Rattle.special_function.specs.Polynomial.{nested}
 use Rattle.special_function.specs.ErrorFunction.{erfcCody}
 use Rattle.special_function.specs.declared.normal_distribution.Expansion.{Expansion}
 
--- 1/√(2π)
+-- 1/√(2π): the source's file has this constant of its own beside FRAC_1_SQRT_2_PI of constants.rs, with the same bits
 abbrev pub fracSqrt2Pi : Float
 fracSqrt2Pi = bits 0x3FD9_8845_33D4_3650
 
@@ -22,7 +22,8 @@ normPdf x2 = fracSqrt2Pi ⊗ exp (neg half ⊗ x2)
 
 -- ---- the asymptotic expansion of `norm_cdf`
 
--- one turn of the source's loop, from what it has before to what it has after: `i` counts by four from 4, `a` is the size of the last term; 3.0 and 4.0 by their bits
+-- one iteration of the source's loop, from what it has before to what it has after: `i` counts by four from 4, `a` is the magnitude of the last
+-- term; 3.0 and 4.0 by their bits
 unfoldable pub next : Float → Expansion → Expansion
 next zsqr s =
     let x = (s .i ⊖ bits 0x4008_0000_0000_0000) ⊘ zsqr in
@@ -34,26 +35,26 @@ next zsqr s =
 unfoldable pub goesOn : Float → Expansion → Bool
 goesOn lasta s = lt (s .a) lasta && le (abs (s .sum ⊗ epsilon)) (s .a)
 
--- the sum where the loop stops, after at most `turns` more; `on` says whether it goes on from s
+-- the sum where the loop stops, after at most so many more iterations; `on` says whether it goes on from s
 unfoldable pub sumFrom : ℕ → Bool → Float → Expansion → Float
 unfolding next goesOn
 sumFrom zero on zsqr s = s .sum
-sumFrom (suc turns) false zsqr s = s .sum
-sumFrom (suc turns) true zsqr s = sumFrom turns (goesOn (s .a) (next zsqr s)) zsqr (next zsqr s)
+sumFrom (suc more) false zsqr s = s .sum
+sumFrom (suc more) true zsqr s = sumFrom more (goesOn (s .a) (next zsqr s)) zsqr (next zsqr s)
 
 -- what the loop starts from
 abbrev pub initialExpansion : Expansion
 initialExpansion = record { sum = one; g = one; i = bits 0x4010_0000_0000_0000; a = maxFinite }
 
--- More turns than the loop can take: a term's size is a whole number of 2 ^ -1074 below 2 ^ 1024, and it falls or the loop stops.
--- `asymptotic-sum-stops` of proofs/Ending is the theorem.
-unfoldable pub turns : ℕ
-turns = 2 ^ 2098
+-- More iterations than the loop can take: a term's magnitude is a whole number of 2 ^ -1074 below 2 ^ 1024, and it falls or the loop stops
+-- (`asymptotic-sum-stops` of proofs/AsymptoticSum.antt).
+unfoldable pub iterationLimit : ℕ
+iterationLimit = 2 ^ 2098
 
 -- the sum where the source's loop stops
 unfoldable pub asymptoticSum : Float → Float
-unfolding sumFrom turns
-asymptoticSum zsqr = sumFrom turns true zsqr initialExpansion
+unfolding sumFrom iterationLimit
+asymptoticSum zsqr = sumFrom iterationLimit true zsqr initialExpansion
 
 -- from the first down to the second the expansion is summed; below the second it is 1
 abbrev pub firstThreshold : Float

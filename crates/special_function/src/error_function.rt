@@ -1,6 +1,8 @@
 // Cody's error functions, and the inverse of erf.
 ghost use mathlib.Core.Path.{_≡_};
-ghost use Rattle.special_function.specs.ErrorFunction.{ab, cd, pq, smoothenedExponentialOfNegativeSquare, smoothenedExponentialOfPositiveSquare, erfCody, erfcAboveThreshold, erfcCody, erfcxCodyAboveThreshold, erfcxCody};
+ghost use Rattle.special_function.specs.ErrorFunction.{ab, cd, pq};
+ghost use Rattle.special_function.specs.ErrorFunction.{smoothenedExponentialOfNegativeSquare, smoothenedExponentialOfPositiveSquare};
+ghost use Rattle.special_function.specs.ErrorFunction.{erfCody, erfcAboveThreshold, erfcCody, erfcxCodyAboveThreshold, erfcxCody};
 ghost use Rattle.special_function.specs.Erfinv.{erfinv};
 use crate::normal_distribution::U_MAX;
 use crate::normal_distribution::inverse_norm_cdf_for_low_probabilities;
@@ -160,7 +162,7 @@ pub fn erfc_cody(x: f64) -> f64
     }
 }
 
-// What `erfc_cody` takes for |x| above the threshold.
+// erfc(y) for y above the threshold, which `erfc_cody` takes at |x|.
 fn erfc_above_threshold(y: f64) -> f64
     ensures { λ r. ⌜ r ≡ erfcAboveThreshold y ⌝ }
 {

@@ -1,7 +1,9 @@
 // The normal distribution: density, cumulative probability and its inverse.
 ghost use mathlib.Core.Path.{_≡_};
 ghost use Rattle.special_function.specs.Internal.SharedExponential.{same, normPdfOfSquare};
-ghost use Rattle.special_function.specs.NormalDistribution.{normPdf, next, goesOn, asymptoticSum, normCdf, inverseNormCdfmHalfForMidrangeProbabilities, inverseNormCdfForLowProbabilities, inverseNormCdf};
+ghost use Rattle.special_function.specs.NormalDistribution.{normPdf, next, goesOn, asymptoticSum, normCdf};
+ghost use Rattle.special_function.specs.NormalDistribution.{inverseNormCdfmHalfForMidrangeProbabilities};
+ghost use Rattle.special_function.specs.NormalDistribution.{inverseNormCdfForLowProbabilities, inverseNormCdf};
 use crate::error_function::erfc_cody;
 use crate::polynomial::rational;
 use arithmetic::basic::abs;
@@ -13,8 +15,10 @@ use arithmetic::fused_multiply_add::mul_add2_sel;
 use arithmetic::ln::ln;
 use arithmetic::sqrt::sqrt;
 
-pub const FRAC_SQRT_2_PI: f64 = 0.398_942_280_401_432_65;
+// 1/√(2π). The source's file has this constant of its own beside FRAC_1_SQRT_2_PI of constants.rs, with the same bits.
+const FRAC_SQRT_2_PI: f64 = 0.398_942_280_401_432_65;
 
+// The density at x, x2 being x².
 pub fn norm_pdf(x2: f64) -> f64
     ensures { λ r. ⌜ r ≡ normPdf x2 ⌝ }
 {
@@ -43,8 +47,8 @@ pub fn norm_pdf_of_square(a: f64, exponential: f64) -> f64
     norm_pdf(a * a)
 }
 
-// Where the asymptotic expansion of `norm_cdf` stands: its sum, the factor of the next term, that
-// term's number, and the last term's size.
+// The variables of the loop that sums the asymptotic expansion of `norm_cdf`, by the source's names: the sum; the product g
+// of the factors so far; the counter i, which goes by four from 4; and the magnitude a of what the last iteration took off.
 struct Expansion {
     pub sum: f64,
     pub g: f64,
@@ -53,7 +57,7 @@ struct Expansion {
 }
 
 impl Expansion {
-    // One term further.
+    // One iteration takes two terms of the series, of opposite signs, off the sum as one difference.
     fn next(self, zsqr: f64) -> Expansion
         ensures { λ r. ⌜ r ≡ next zsqr self ⌝ }
     {
@@ -68,7 +72,7 @@ impl Expansion {
         }
     }
 
-    // The last term has fallen, and still counts in the sum.
+    // What was taken off is smaller than in the iteration before, and still counts in the sum.
     fn goes_on(self, lasta: f64) -> bool
         ensures { λ r. ⌜ r ≡ goesOn lasta self ⌝ }
     {
@@ -76,7 +80,7 @@ impl Expansion {
     }
 }
 
-// The sum as far as its terms fall and matter.
+// The sum after the first iteration whose terms no longer fall, or no longer count.
 fn asymptotic_sum(zsqr: f64) -> f64
     ensures { λ r. ⌜ r ≡ asymptoticSum zsqr ⌝ }
 {

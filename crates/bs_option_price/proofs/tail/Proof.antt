@@ -1,4 +1,4 @@
--- Twelve terms, each one step of the definition; from the last threshold on, there is no tail.
+-- Below the last threshold the twelve calls of `term` are the definition's twelve steps; from there on the tail is 0. Assumes nothing.
 use borrow.Author.Needs.{needs}
 use borrow.Author.Tests.{le-ltb}
 use Rattle.bs_option_price.specs.BsOptionPrice.{tail}
@@ -10,8 +10,37 @@ returns : tie.Need-returns
 unfolding tail
 returns c = rw (le-ltb _ _ (c .if1 .taken))
 
+-- each call of `term` takes omega from one step of the definition to the next
 returns-2 : tie.Need-returns-2
-returns-2 c = tail-from-terms _ _ _ (c .before .before .before .before .before .before .before .before .before .before .before .before .if1 .left) (next-term _ _ _ 11 (next-term _ _ _ 10 (next-term _ _ _ 9 (next-term _ _ _ 8 (next-term _ _ _ 7 (next-term _ _ _ 6 (next-term _ _ _ 5 (next-term _ _ _ 4 (next-term _ _ _ 3 (next-term _ _ _ 2 (next-term _ _ _ 1 (first-term _ _ _ (c .before .before .before .before .before .before .before .before .before .before .before .term .ensures)) (c .before .before .before .before .before .before .before .before .before .before .term2 .ensures)) (c .before .before .before .before .before .before .before .before .before .term3 .ensures)) (c .before .before .before .before .before .before .before .before .term4 .ensures)) (c .before .before .before .before .before .before .before .term5 .ensures)) (c .before .before .before .before .before .before .term6 .ensures)) (c .before .before .before .before .before .term7 .ensures)) (c .before .before .before .before .term8 .ensures)) (c .before .before .before .term9 .ensures)) (c .before .before .term10 .ensures)) (c .before .term11 .ensures)) (c .term12 .ensures))
+returns-2 c =
+    let after-11 = c .before in
+    let after-10 = after-11 .before in
+    let after-9 = after-10 .before in
+    let after-8 = after-9 .before in
+    let after-7 = after-8 .before in
+    let after-6 = after-7 .before in
+    let after-5 = after-6 .before in
+    let after-4 = after-5 .before in
+    let after-3 = after-4 .before in
+    let after-2 = after-3 .before in
+    let after-1 = after-2 .before in
+    let omega-1 = first-term _ _ _ (after-1 .term .ensures) in
+    let omega-2 = next-term _ _ _ 1 omega-1 (after-2 .term2 .ensures) in
+    let omega-3 = next-term _ _ _ 2 omega-2 (after-3 .term3 .ensures) in
+    let omega-4 = next-term _ _ _ 3 omega-3 (after-4 .term4 .ensures) in
+    let omega-5 = next-term _ _ _ 4 omega-4 (after-5 .term5 .ensures) in
+    let omega-6 = next-term _ _ _ 5 omega-5 (after-6 .term6 .ensures) in
+    let omega-7 = next-term _ _ _ 6 omega-6 (after-7 .term7 .ensures) in
+    let omega-8 = next-term _ _ _ 7 omega-7 (after-8 .term8 .ensures) in
+    let omega-9 = next-term _ _ _ 8 omega-8 (after-9 .term9 .ensures) in
+    let omega-10 = next-term _ _ _ 9 omega-9 (after-10 .term10 .ensures) in
+    let omega-11 = next-term _ _ _ 10 omega-10 (after-11 .term11 .ensures) in
+    let omega-12 = next-term _ _ _ 11 omega-11 (c .term12 .ensures) in
+    tail-from-terms _ _ _ (after-1 .before .if1 .left) omega-12
 
 pub tail-spec : {M : Type 1} → statement M
-tail-spec = tie.close (tie.spec returns (λ c κs. search needs) (λ c κs. search needs) (λ c κs. search needs) (λ c κs. search needs) (λ c κs. search needs) (λ c κs. search needs) (λ c κs. search needs) (λ c κs. search needs) (λ c κs. search needs) (λ c κs. search needs) (λ c κs. search needs) (λ c κs. search needs) returns-2)
+tail-spec =
+    tie.close
+    (tie.spec returns (λ c κs. search needs) (λ c κs. search needs) (λ c κs. search needs) (λ c κs. search needs)
+    (λ c κs. search needs) (λ c κs. search needs) (λ c κs. search needs) (λ c κs. search needs) (λ c κs. search needs)
+    (λ c κs. search needs) (λ c κs. search needs) (λ c κs. search needs) returns-2)

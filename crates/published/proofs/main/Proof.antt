@@ -1,13 +1,13 @@
--- `published::main` ends: its turns are counted down. Assumes nothing.
+-- The lines that may still be read are counted down. Assumes nothing.
 use borrow.Author.Needs.{needs}
 use Rattle.published.proofs.main.Statement.{statement}
 use Rattle.published.proofs.main.Tie as tie
 
 abbrev Inv-loop : tie.InvT-loop
-Inv-loop turns₀ turns = Unit
+Inv-loop lines₀ lines = Unit
 
 abbrev μ-loop : tie.MeasureT-loop
-μ-loop turns₀ turns = turns
+μ-loop lines₀ lines = lines
 
 pub main-spec : {M : Type 1} → statement M
 main-spec =

@@ -1,16 +1,17 @@
 -- The density by an exponential that is at hand is the density. Assumes nothing.
 use mathlib.Core.Path.{_≡_, refl, sym, ap, subst, _∙_}
-use mathlib.Core.Bool.{Bool, true, false, not, _&&_, cond, false≢true}
+use mathlib.Core.Bool.{true, not, false≢true}
 use lib.Dec.{T, eqb→eq}
 use lib.Ieee.{Float, nan, inf, fin, binary64, eq, isNan, ofBits}
 use lib.Ieee.Bits.{ofBits-toBits}
-use lib.Ieee.Fits.{mul-fits}
+use lib.Ieee.Fits.{mul-fits, and-r}
 use Rattle.arithmetic.specs.Operations.{_⊗_}
 use Rattle.arithmetic.specs.Exp.{exp}
+use Rattle.arithmetic.specs.Laws.Choices.{by-test}
 use Rattle.special_function.specs.NormalDistribution.{fracSqrt2Pi, normPdf}
 use Rattle.special_function.specs.Internal.SharedExponential.{squareFirst, leftToRight, same, normPdfOfSquare}
 
--- a number that equals another is no NaN, nor is the other
+-- of two that compare equal neither is a NaN
 pub equal-numbers : (x y : Float) → eq x y ≡ true → T (not (isNan x)) × T (not (isNan y))
 unfolding eq isNan
 equal-numbers nan y e = absurd (false≢true e)
@@ -21,23 +22,17 @@ equal-numbers (inf s) (fin t n k) e = (tt, tt)
 equal-numbers (fin s m d) (inf t) e = (tt, tt)
 equal-numbers (fin s m d) (fin t n k) e = (tt, tt)
 
--- ---- products with the same bits are one number, and so are their exponentials
-
+-- products with the same bits are one number
 same-products : (a b c d : Float) → same (a ⊗ b) (c ⊗ d) ≡ true → a ⊗ b ≡ c ⊗ d
 same-products a b c d e =
     sym (ofBits-toBits binary64 _ (mul-fits binary64 a b))
-    ∙ ap (ofBits binary64) (eqb→eq _ _ (subst T (sym (right (eq (a ⊗ b) (c ⊗ d)) _ e)) tt))
+    ∙ ap (ofBits binary64) (eqb→eq _ _ (and-r (eq (a ⊗ b) (c ⊗ d)) _ (subst T (sym e) tt)))
     ∙ ofBits-toBits binary64 _ (mul-fits binary64 c d)
-  where
-    right : (p q : Bool) → (p && q) ≡ true → q ≡ true
-    right true q h = h
-    right false q h = absurd (false≢true h)
 
+-- so an exponential of the one product is that of the other
 pub pdf-of-square : (a : Float) → normPdfOfSquare a (exp (leftToRight a)) ≡ normPdf (a ⊗ a)
 unfolding normPdfOfSquare normPdf
-pdf-of-square a = go (same (squareFirst a) (leftToRight a)) (same-products _ _ _ _)
-  where
-    go : (b : Bool) → (b ≡ true → squareFirst a ≡ leftToRight a)
-        → cond b (fracSqrt2Pi ⊗ exp (leftToRight a)) (fracSqrt2Pi ⊗ exp (squareFirst a)) ≡ fracSqrt2Pi ⊗ exp (squareFirst a)
-    go true h = rw (h refl)
-    go false h = refl
+pdf-of-square a =
+    by-test (λ (z : Float). z ≡ fracSqrt2Pi ⊗ exp (squareFirst a)) (same (squareFirst a) (leftToRight a))
+    (λ s. rw (same-products _ _ _ _ s))
+    (λ d. refl)

@@ -8,8 +8,9 @@ use Rattle.published.proofs.text.write_parts.Tie as tie
 
 slice-aggregate-write-all : tie.Need-slice-aggregate-write-all
 slice-aggregate-write-all c =
-    let d = c .before .before .before .decimal in
-    sym (length-take-le (d .result) _ (rw length-set (d .ensures .0 .0)))
+    let after-print = c .before .before in
+    let decimal = after-print .before .decimal in
+    sym (length-take-le (decimal .result) _ (rw length-set (decimal .ensures .0 .0)))
 
 pub write-parts-spec : {M : Type 1} → statement M
 write-parts-spec =

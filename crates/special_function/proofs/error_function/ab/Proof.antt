@@ -1,4 +1,4 @@
--- What each call ensures, put in. Assumes nothing.
+-- Straight: the operations are the definition's. Assumes nothing.
 use borrow.Author.Needs.{needs}
 use Rattle.special_function.specs.ErrorFunction.{ab}
 use Rattle.special_function.proofs.error_function.ab.Statement.{statement}
@@ -6,12 +6,7 @@ use Rattle.special_function.proofs.error_function.ab.Tie as tie
 
 returns : tie.Need-returns
 unfolding ab
-returns c = rw (
-  c .evaluate2 .ensures,
-  c .before .before .before .mul-add2-sel2 .ensures,
-  c .before .before .before .before .evaluate .ensures,
-  c .before .before .before .before .before .before .before .mul-add2-sel .ensures,
-)
+returns c = cc
 
 pub ab-spec : {M : Type 1} → statement M
 ab-spec =

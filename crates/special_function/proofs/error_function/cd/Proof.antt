@@ -6,7 +6,7 @@ use Rattle.special_function.proofs.error_function.cd.Tie as tie
 
 returns : tie.Need-returns
 unfolding cd
-returns c = rw (c .evaluate2 .ensures, c .before .before .before .evaluate .ensures)
+returns c = cc
 
 pub cd-spec : {M : Type 1} → statement M
 cd-spec =

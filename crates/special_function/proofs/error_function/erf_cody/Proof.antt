@@ -5,31 +5,34 @@ use Rattle.special_function.proofs.error_function.erf_cody.Tie as tie
 
 returns : tie.Need-returns
 unfolding erfCody
-returns c = rw (← c .before .before .abs .ensures, c .before .if1 .taken) cc
+returns c =
+    let at-threshold = c .before in
+    rw (← at-threshold .before .abs .ensures, at-threshold .if1 .taken) cc
 
 returns-2 : tie.Need-returns-2
 unfolding erfCody
-returns-2 c = rw (← c .before .before .before .abs .ensures, c .before .before .if1 .left, c .before .if2 .taken) cc
+returns-2 c =
+    let at-xbig = c .before in
+    let at-threshold = at-xbig .before in
+    rw (← at-threshold .before .abs .ensures, at-threshold .if1 .left, at-xbig .if2 .taken) cc
 
 returns-3 : tie.Need-returns-3
 unfolding erfCody
 returns-3 c =
-    rw (
-      ← c .before .before .before .before .before .before .abs .ensures,
-      c .before .before .before .before .before .if1 .left,
-      c .before .before .before .before .if2 .left,
-      c .before .if3 .taken,
-    ) cc
+    let at-sign = c .before in
+    let after-erfcx = at-sign .before .before in
+    let at-xbig = after-erfcx .before in
+    let at-threshold = at-xbig .before in
+    rw (← at-threshold .before .abs .ensures, at-threshold .if1 .left, at-xbig .if2 .left, at-sign .if3 .taken) cc
 
 returns-4 : tie.Need-returns-4
 unfolding erfCody
 returns-4 c =
-    rw (
-      ← c .before .before .before .before .before .before .abs .ensures,
-      c .before .before .before .before .before .if1 .left,
-      c .before .before .before .before .if2 .left,
-      c .before .if3 .left,
-    ) cc
+    let at-sign = c .before in
+    let after-erfcx = at-sign .before .before in
+    let at-xbig = after-erfcx .before in
+    let at-threshold = at-xbig .before in
+    rw (← at-threshold .before .abs .ensures, at-threshold .if1 .left, at-xbig .if2 .left, at-sign .if3 .left) cc
 
 pub erf-cody-spec : {M : Type 1} → statement M
 erf-cody-spec =

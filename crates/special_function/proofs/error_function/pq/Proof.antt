@@ -6,7 +6,7 @@ use Rattle.special_function.proofs.error_function.pq.Tie as tie
 
 returns : tie.Need-returns
 unfolding pq
-returns c = rw (c .evaluate2 .ensures, c .before .before .before .evaluate .ensures)
+returns c = cc
 
 pub pq-spec : {M : Type 1} → statement M
 pq-spec =

@@ -5,11 +5,15 @@ use Rattle.special_function.proofs.normal_distribution.norm_cdf.Tie as 
 
 returns : tie.Need-returns
 unfolding normCdf
-returns c = rw (c .before .before .before .if1 .taken, c .before .before .if2 .taken) cc
+returns c =
+    let at-second-threshold = c .before .before in
+    rw (at-second-threshold .before .if1 .taken, at-second-threshold .if2 .taken) cc
 
 returns-2 : tie.Need-returns-2
 unfolding normCdf
-returns-2 c = rw (c .before .before .if1 .taken, c .before .if2 .left) cc
+returns-2 c =
+    let at-second-threshold = c .before in
+    rw (at-second-threshold .before .if1 .taken, at-second-threshold .if2 .left) cc
 
 returns-3 : tie.Need-returns-3
 unfolding normCdf

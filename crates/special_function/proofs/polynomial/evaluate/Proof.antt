@@ -14,7 +14,9 @@ use Rattle.special_function.proofs.polynomial.evaluate.Statement.{state
 use Rattle.special_function.proofs.polynomial.evaluate.Tie as tie
 
 -- one coefficient further
-step : (l : List Float) (i : ℕ) (r v z : Float) → i < length l → r ≡ mulAdd2Sel v z (getD l i nan) → evaluate r (drop (i + 1) l) z ≡ evaluate v (drop i l) z
+step :
+    (l : List Float) (i : ℕ) (r v z : Float) → i < length l → r ≡ mulAdd2Sel v z (getD l i nan)
+    → evaluate r (drop (i + 1) l) z ≡ evaluate v (drop i l) z
 unfolding evaluate
 step l i r v z h e = rw (e, drop-cons l i nan h, add-one)
 
@@ -30,12 +32,16 @@ loop-holds c = (search needs, refl)
 
 loop-again : tie.Need-loop-again Inv-loop μ-loop
 loop-again c =
-    (search needs, step _ (c .before .before .before .loop .i) _ _ _ (c .before .before .loop-test .taken) (c .mul-add2-sel .ensures) ∙ c .before .before .before .loop .inv .1)
+    let at-test = c .before .before in
+    let at-loop = at-test .before .loop in
+    (search needs, step _ (at-loop .i) _ _ _ (at-test .loop-test .taken) (c .mul-add2-sel .ensures) ∙ at-loop .inv .1)
 
 returns : tie.Need-returns Inv-loop μ-loop
 unfolding evaluate
 returns c =
-    rw (drop-of-length-le (c .before .before .before .args .coefficients .now) {i = c .before .loop .i} (omega arith)) at (c .before .loop .inv .1)
+    let at-loop = c .before in
+    let start = at-loop .before .before in
+    rw (drop-of-length-le (start .args .coefficients .now) {i = at-loop .loop .i} (omega arith)) at (at-loop .loop .inv .1)
 
 pub evaluate-spec : {M : Type 1} → statement M
 evaluate-spec =

@@ -33,7 +33,11 @@ returns : tie.Need-returns
 returns c = none _ _ (c .if1 .taken)
 
 returns-2 : tie.Need-returns-2
-returns-2 c = c .evaluate .ensures ∙ some _ (c .before .before .before .before .before .args .coefficients .now) (omega arith)
+returns-2 c =
+    let after-index = c .before .before in
+    let at-test = after-index .before in
+    let start = at-test .before .before in
+    c .evaluate .ensures ∙ some _ (start .args .coefficients .now) (omega arith)
 
 pub nested-spec : {M : Type 1} → statement M
 nested-spec = tie.close (tie.spec returns (λ c. search needs) (λ c. search needs) (λ c. search needs) (λ c. search needs) (λ c κs. tt)

@@ -5,7 +5,9 @@ use Rattle.special_function.proofs.normal_distribution.Expansion.goes_o
 
 returns : tie.Need-returns
 unfolding goesOn
-returns c = rw (c .before .before .before .if1 .taken, c .before .abs .ensures)
+returns c =
+    let after-abs = c .before in
+    rw (after-abs .before .before .if1 .taken, after-abs .abs .ensures)
 
 returns-2 : tie.Need-returns-2
 unfolding goesOn

@@ -9,13 +9,12 @@ use borrow.Author.Tests.{ltb-true, lt-ltb, le-ltb}
 use lib.IntN.{pos, negsuc}
 use lib.Dec.{T, leb, ltb, eqb, lt→ltb, lit≤, lit<}
 use lib.Pow.{pow-pos}
-use lib.Ieee.{Float, nan, inf, fin, Format, binary64, low, up, down, minus, odd, round, sum, sub, neg, lt, fits, isNan, ofBits, toBits, nanBits}
+use lib.Ieee.{Float, nan, inf, fin, binary64, up, down, minus, odd, round, sum, sub, neg, lt, fits, isNan, ofBits, toBits, nanBits}
 use lib.Ieee.Bits.{is-true, ofBits-fits, toBits-ofBits}
 use lib.Ieee.Fits.{and-i, and-l, and-r, eq→eqb, round-fits, add-fits}
 use lib.Ieee.Back.{round-whole}
 use lib.Ieee.Exact.{HasValue, odd-sign}
-use lib.Ieee.Order.{transfer, round-mono}
-use lib.Ieee.Scale.{finite, grid}
+use lib.Ieee.Scale.{finite}
 use lib.Ieee.Positive.{num, den, den-pos}
 use Rattle.arithmetic.specs.Operations.{_⊕_, _⊖_, _⊗_}
 use Rattle.arithmetic.specs.Basic.{isSignMinus}
@@ -25,32 +24,14 @@ use Rattle.arithmetic.specs.Internal.Exp.{fastLimit, inFastRange, shift,
 use Rattle.arithmetic.specs.Laws.Numbers.{lt-or-le, false-not}
 use Rattle.arithmetic.specs.Laws.Times.{cross, has-sign, has-finite, of-cross, rescale, neg-num, neg-den, neg-sign, neg-finite}
 use Rattle.arithmetic.specs.Laws.Patterns.{built, bits-no-nan, value-unique}
-use Rattle.arithmetic.specs.Laws.Rounding.{round-value, round-under}
-use Rattle.arithmetic.specs.Laws.Representable.{representable, round-representable}
+use Rattle.arithmetic.specs.Laws.Representable.{representable}
 use Rattle.arithmetic.specs.Laws.Sums.{add-is, sum-same}
 use Rattle.arithmetic.specs.Laws.Compare.{finite-no-nan}
-use Rattle.arithmetic.specs.Laws.Bounds.{AtMost, round-at-most, le-cross}
+use Rattle.arithmetic.specs.Laws.Bounds.{AtMost, round-at-most, round-at-least}
 use Rattle.arithmetic.specs.Laws.PowersOfTwo.{times-power, high-power}
 use Rattle.arithmetic.proofs.Trunc.{whole-large, whole-value}
 use Rattle.arithmetic.proofs.ExpGeneral.{product-at-most, half-away-round, place, part-is, exp-is}
 use Rattle.arithmetic.proofs.ExpZeroSign.{either-zero}
-
--- ---- what is no smaller than a value of the format rounds to no less
-round-at-least : (f : Format) (s : Bool) (a c : ℕ) (v : Float) → 0 < c → T (fits f v) → T (finite v) → T (finite (round f s a c)) → num v * c ≤ a * den v → num v * den (round f s a c) ≤ num (round f s a c) * den v
-round-at-least f s a c v C F p t h =
-    let g = grid f a c in
-    let l = 2 ^ low f in
-    let under = round-under f s a c t in
-    let r = round f s a c in
-    let r0 = round f false a c in
-    let z = round f false (num v) (den v) in
-    let R : HasValue r s g l = round-value f s a c under in
-    let R0 : HasValue r0 false g l = round-value f false a c under in
-    let Z : HasValue z false (num v) (den v) = round-representable f false v F p in
-    let order : num z * den r0 ≤ num r0 * den z =
-    le-cross z r0 (has-finite z false (num v) (den v) Z) (has-finite r0 false g l R0) (has-sign z false (num v) (den v) Z) (has-sign r0 false g l R0) (round-mono f (num v) (den v) a c (den-pos v) C h) in
-    let whole : num v * l ≤ g * den v = transfer (num v) g (den v) l (num z) (num r0) (den z) (den r0) (den-pos z) (den-pos r0) (sym (cross z false (num v) (den v) Z)) (sym (cross r0 false g l R0)) order in
-    transfer (num v) (num r) (den v) (den r) (num v) g (den v) l (den-pos v) (pow-pos (low f)) refl (cross r s g l R) whole
 
 -- ---- the limits of an ordinary x: between -708 and 708
 within : (x : Float) → lt x fastLimit ≡ true → lt (neg fastLimit) x ≡ true → T (finite x) × (num x * 1 ≤ 708 * den x)

@@ -1,4 +1,4 @@
--- A finite value by the fields of its bit pattern, as `decode` takes them. Assumes nothing.
+-- What `decode` of `mul_add` gives: a finite value by the fields of its bit pattern. Assumes nothing.
 use mathlib.Core.Path.{_≡_, refl, sym, _∙_, subst}
 use mathlib.Core.Bool.{Bool}
 use Prim.Native.Nat.{ℕ, suc, _+_, _-_, _*_, _/_, _^_, _<_}
@@ -30,7 +30,7 @@ module _ (x : Float) (F : T (fits binary64 x)) (h : T (finite x)) where
   is : (y : ℕ) → f ≡ y → ofFields binary64 s y t ≡ x
   is y e = rw (← e, and-mask (b / 2 ^ 52) 11, and-mask b 52, ← field b 11 52) (sym (ofBits-is b) ∙ ofBits-toBits binary64 x F)
 
-  pub field-lt : f < 2047
+  field-lt : f < 2047
   field-lt =
       let a = mask-lt (b / 2 ^ 52) 11 in
       let n : f ≡ 2047 → ⊥ = finite-field s f t (subst (λ (v : Float). T (finite v)) (sym (is f refl)) h) in
@@ -40,7 +40,9 @@ module _ (x : Float) (F : T (fits binary64 x)) (h : T (finite x)) where
   at-zero e = subst (λ (v : Float). HasValue v s (t * 2 ^ 0) (2 ^ 1074)) (is 0 e) (read-zero s t)
 
   pub at-more : (j : ℕ) → f ≡ suc j → HasValue x s ((2 ^ 52 + t) * 2 ^ j) (2 ^ 1074)
-  at-more j e = subst (λ (v : Float). HasValue v s ((2 ^ 52 + t) * 2 ^ j) (2 ^ 1074)) (is (suc j) e) (read-more s j t (subst (λ (y : ℕ). y < 2047) e field-lt))
+  at-more j e =
+      subst (λ (v : Float). HasValue v s ((2 ^ 52 + t) * 2 ^ j) (2 ^ 1074)) (is (suc j) e)
+      (read-more s j t (subst (λ (y : ℕ). y < 2047) e field-lt))
 
   pub decoded-zero : f ≡ 0 → Decoded x (record { negative = s; m = t; j = 0 })
   decoded-zero e =

@@ -1,4 +1,4 @@
--- `arithmetic::pair::less` meets its contract. Assumes nothing.
+-- `arithmetic::pair::less` meets its contract: the upper halves decide, and the lower ones where those are equal. Assumes nothing.
 use mathlib.Core.Path.{sym}
 use Prim.Native.Nat.{_^_, _<_}
 use native.Mathlib.Nat.{le-of-lt, le-antisymm}
@@ -16,18 +16,32 @@ bl c = omega arith
 
 returns : tie.Need-returns
 returns c =
-    let s = c .before .before .before in
-    sym (lt-ltb _ _ (upper-less (2 ^ 64) (s .args .a .hi) (s .args .a .lo) (s .args .b .hi) (s .args .b .lo) (al s) (c .if1 .taken)))
+    let at-test = c .before in
+    let start = at-test .before .before in
+    let a = start .args .a in
+    let b = start .args .b in
+    sym (lt-ltb _ _ (upper-less (2 ^ 64) (a .hi) (a .lo) (b .hi) (b .lo) (al start) (c .if1 .taken)))
 
 returns-2 : tie.Need-returns-2
 returns-2 c =
-    let s = c .before .before .before .before .before .before in
-    sym (le-ltb _ _ (le-of-lt (upper-less (2 ^ 64) (s .args .b .hi) (s .args .b .lo) (s .args .a .hi) (s .args .a .lo) (bl s) (c .if2 .taken))))
+    let at-test-2 = c .before in
+    let not-below = at-test-2 .before .before in
+    let at-test = not-below .before in
+    let start = at-test .before .before in
+    let a = start .args .a in
+    let b = start .args .b in
+    sym (le-ltb _ _ (le-of-lt (upper-less (2 ^ 64) (b .hi) (b .lo) (a .hi) (a .lo) (bl start) (c .if2 .taken))))
 
 returns-3 : tie.Need-returns-3
 returns-3 c =
-    let s = c .before .before .before .before .before .before .before .before in
-    lower-less (2 ^ 64) (s .args .a .hi) (s .args .b .hi) (s .args .a .lo) (s .args .b .lo) (le-antisymm (c .before .before .if2 .left) (c .before .before .before .before .before .if1 .left))
+    let not-above = c .before .before in
+    let at-test-2 = not-above .before in
+    let not-below = at-test-2 .before .before in
+    let at-test = not-below .before in
+    let start = at-test .before .before in
+    let a = start .args .a in
+    let b = start .args .b in
+    lower-less (2 ^ 64) (a .hi) (b .hi) (a .lo) (b .lo) (le-antisymm (not-above .if2 .left) (not-below .if1 .left))
 
 pub less-spec : {M : Type 1} → statement M
 less-spec = tie.close (tie.spec returns returns-2 returns-3)

@@ -10,7 +10,7 @@ use native.Mathlib.Nat.{div-one, div-eq-of-lt, div-mul-le-self, div-add-mod', di
 use native.Mathlib.Numerals.{add-one}
 use native.Mathlib.Omega.{arith}
 use lib.Dec.{ltb, lit≤}
-use lib.Arith.{digits-lt, digits-div, mod-mul}
+use lib.Arith.{le-zero, digits-lt, digits-div, mod-mul}
 use lib.Pow.{pow-add, pow-pos, pow-mono, shr-lt, split}
 use lib.Bits.{bitAnd, and-mask, mask-lt}
 use lib.Count.{leadingZeros, leading-of-zero, leading-top}
@@ -280,15 +280,11 @@ pub jam-none : (n d v : ℕ) → v ≡ n / 2 ^ (d + 1) * 2 → n ≤ n / 2 ^ (d 
 jam-none n d v e g = let m = div-add-mod' n (2 ^ (d + 1)) in omega arith
 
 -- ---- how many digits, by the zeros that lead
-size-zero : size 0 ≡ 0
-unfolding size
-size-zero = refl
-
 pub digits-low : (h l : ℕ) → h ≡ 0 → l < 2 ^ 64 → 64 - leadingZeros 64 l ≡ size (h * 2 ^ 64 + l)
 digits-low h l e L = let z : h * 18446744073709551616 + l ≡ l = omega arith in rw z (go (eq-zero-or-pos l))
   where
     go : (l ≡ 0) ⊎ (0 < l) → 64 - leadingZeros 64 l ≡ size l
-    go (inl e) = rw (e, leading-of-zero 64) (sym size-zero)
+    go (inl e) = rw (e, leading-of-zero 64) (sym (le-zero (size-le 0 0 (pow-pos 0))))
     go (inr p) =
         let (j, e, lo, hi) = leading-top 64 l p L in
         let z : 64 - leadingZeros 64 l ≡ j + 1 = omega arith in

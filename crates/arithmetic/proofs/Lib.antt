@@ -11,6 +11,7 @@ mod MulAddOperands
 mod SqrtDigits
 mod SqrtPaths
 mod Trunc
+mod MaxMin
 mod ExpGeneral
 mod LnPaths
 mod ExpZeroSign

@@ -1,4 +1,4 @@
--- `ln` and `ln1p` on each of the ways through the code. Assumes nothing.
+-- What `decompose_bits`, `ln` and `ln_1p` give: a difference of whole numbers, and the logarithm on each path of the code. Assumes nothing.
 use mathlib.Core.Path.{_≡_, refl, sym, ap, _∙_, subst}
 use mathlib.Core.Logic.{_⊎_, inl, inr}
 use mathlib.Core.Bool.{true, false, _&&_, _||_, true≢false, false≢true, or-true}
@@ -8,7 +8,7 @@ use native.Mathlib.Omega.{arith}
 use borrow.Author.Tests.{lt-ltb, le-ltb, le-leb, lt-leb, ltb-false}
 use lib.IntN.{pos}
 use lib.Dec.{T, eqb, lt→ltb}
-use lib.Ieee.{Float, nan, inf, fin, binary64, up, down, minus, round, sum, add, sub, mul, div, neg, ofInt, isNan, lt, eq, le, ofBits}
+use lib.Ieee.{Float, nan, inf, fin, binary64, up, down, minus, round, sum, add, sub, mul, neg, ofInt, isNan, lt, eq, le, ofBits}
 use lib.Ieee.Fits.{down-pos}
 use lib.Ieee.Back.{round-whole}
 use lib.Ieee.Bits.{is-true}
@@ -23,6 +23,7 @@ use Rattle.arithmetic.specs.Laws.Numbers.{lt-or-le}
 use Rattle.arithmetic.specs.Laws.Times.{cross, has-sign, has-finite, neg-num, neg-den, neg-sign, neg-finite}
 use Rattle.arithmetic.specs.Laws.Compare.{finite-no-nan}
 use Rattle.arithmetic.specs.Laws.Sums.{sum-same, add-is}
+use Rattle.arithmetic.proofs.SqrtPaths.{zero-by-zero}
 
 -- ---- the difference of two whole numbers is exact
 whole-difference : (n c : ℕ) → sum binary64 false n true c 1 ≡ ofInt binary64 (minus n c)
@@ -45,18 +46,18 @@ sub-whole n c N C =
     let v = whole-value n N in
     let w = whole-value c C in
     let F = has-finite y false c 1 w in
-    let A : num x * den y * 1 ≡ n * (den x * den y) = mul-one (num x * den y) ∙ ap (λ (z : ℕ). z * den y) (sym (mul-one (num x)) ∙ cross x false n 1 v) ∙ mul-assoc n (den x) (den y) in
+    let A : num x * den y * 1 ≡ n * (den x * den y) = over (num x) (den x) (den y) n (cross x false n 1 v) in
     let B : num y * den x * 1 ≡ c * (den x * den y) =
-    mul-one (num y * den x) ∙ ap (λ (z : ℕ). z * den x) (sym (mul-one (num y)) ∙ cross y false c 1 w) ∙ mul-assoc c (den y) (den x) ∙ ap (λ (z : ℕ). c * z) (mul-comm (den y) (den x)) in
+    over (num y) (den y) (den x) c (cross y false c 1 w) ∙ ap (λ (z : ℕ). c * z) (mul-comm (den y) (den x)) in
     add-is binary64 x (neg y) (has-finite x false n 1 v) (neg-finite y F)
     ∙ rw (neg-num y, neg-den y, neg-sign y F, has-sign x false n 1 v, has-sign y false c 1 w)
-    (sum-same binary64 false true n c 1 (num x * den y) (num y * den x) (den x * den y) (zero-lt-suc 0) (mul-pos (den-pos x) (den-pos y)) A B ∙ whole-difference n c)
+    (sum-same binary64 false true n c 1 (num x * den y) (num y * den x) (den x * den y) (zero-lt-suc 0) (mul-pos (den-pos x) (den-pos y)) A B
+    ∙ whole-difference n c)
+  where
+    over : (a d l k : ℕ) → a * 1 ≡ k * d → a * l * 1 ≡ k * (d * l)
+    over a d l k e = mul-one (a * l) ∙ ap (λ (z : ℕ). z * l) (sym (mul-one a) ∙ e) ∙ mul-assoc k d l
 
 -- ---- `ln`, by its tests
-zero-by-zero : plusZero ⊘ plusZero ≡ nan
-unfolding ofBits div
-zero-by-zero = refl
-
 pub ln-zero : (x : Float) → eq x plusZero ≡ true → bits 0xfff0000000000000 ≡ ln x
 unfolding ln ofBits
 ln-zero x e = rw e
@@ -81,7 +82,8 @@ above (fin true m e) z l h = absurd (true≢false (sym (equal (m * up e * 1) (0 
 above (fin false zero e) z l h = absurd (true≢false (sym (rw (zero-mul (up e), zero-mul (down e))) ∙ z))
 above (fin false (suc m) e) z l h = lt→ltb 0 (suc m) (zero-lt-suc m)
 
-pub ln-parts : (x m k r : Float) → eq x plusZero ≡ false → lt x plusZero ≡ false → T (positive x) → (m ≡ significand x) × (k ≡ exponent x) → r ≡ series (m ⊖ one) k (k ⊗ L) → r ≡ ln x
+pub ln-parts : (x m k r : Float) → eq x plusZero ≡ false → lt x plusZero ≡ false → T (positive x) → (m ≡ significand x) × (k ≡ exponent x)
+    → r ≡ series (m ⊖ one) k (k ⊗ L) → r ≡ ln x
 unfolding ln
 ln-parts x m k r z l p e h = h ∙ rw (e .0, e .1, z, l, finite-no-nan x (positive-finite x p), is-true (finite x) (positive-finite x p))
 
@@ -127,7 +129,8 @@ in-range nan b l = absurd (false≢true b)
 in-range (inf true) b l = absurd (true≢false l)
 in-range (inf false) b l = absurd (false≢true b)
 in-range (fin true m e) b l = absurd (true≢false (sym (lt-ltb 0 (m * up e * 32 + 13 * down e) (omega (arith, down-pos e))) ∙ l))
-in-range (fin false m e) b l = lt→ltb 0 m (first-pos m (up e) (first-pos (m * up e) 32 (omega (arith, down-pos e, ltb-false (m * up e * 32) (13 * down e) l))))
+in-range (fin false m e) b l =
+    lt→ltb 0 m (first-pos m (up e) (first-pos (m * up e) 32 (omega (arith, down-pos e, ltb-false (m * up e * 32) (13 * down e) l))))
 
 sum-is : (u : Float) → T (positive u) → one ⊕ u ≡ round binary64 false (den u + num u) (den u)
 unfolding ofBits add sum

@@ -87,7 +87,7 @@ fields-below (suc x) t h = ap sqrt (above-zero true x t) ∙ go (eqb (suc x) 204
     go true false = at-nan
     go false b = odd-below (4503599627370496 + t) x (omega arith)
 
-zero-by-zero : plusZero ⊘ plusZero ≡ nan
+pub zero-by-zero : plusZero ⊘ plusZero ≡ nan
 unfolding div ofBits
 zero-by-zero = refl
 

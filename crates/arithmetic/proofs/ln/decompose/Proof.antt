@@ -1,7 +1,8 @@
 -- `arithmetic::ln::decompose` meets its contract: a law of `Logarithm` for a subnormal number, and one for any other. Assumes nothing.
-use mathlib.Core.Path.{sym, _∙_, subst}
+use mathlib.Core.Path.{_∙_}
 use mathlib.Core.Bool.{not}
 use lib.Dec.{T}
+use denote.Floats.{passes}
 use lib.Ieee.{Float, binary64, fits, isNan}
 use lib.Ieee.Positive.{positive, positive-finite}
 use borrow.Author.Needs.{needs}
@@ -13,7 +14,7 @@ use Rattle.arithmetic.proofs.ln.decompose.Statement.{statement}
 use Rattle.arithmetic.proofs.ln.decompose.Tie as tie
 
 held : (c : tie.Start) → T (fits binary64 (c .args .x))
-held c = subst T (sym (c .good .0 .1)) tt
+held c = passes _ (c .good .0 .1)
 
 no-nan : (x : Float) → T (positive x) → T (not (isNan x))
 no-nan x p = false-not (isNan x) (finite-no-nan x (positive-finite x p))
@@ -45,4 +46,5 @@ returns-2 c =
 pub decompose-spec : {M : Type 1} → statement M
 decompose-spec =
     tie.close
-    (tie.spec float-to-bits-b float-to-bits-decompose-bits decompose-bits-requires returns add-decompose-bits (λ c κs. search needs) returns-2)
+    (tie.spec float-to-bits-b float-to-bits-decompose-bits decompose-bits-requires returns add-decompose-bits (λ c κs. search needs)
+    returns-2)

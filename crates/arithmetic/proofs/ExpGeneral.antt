@@ -1,4 +1,4 @@
--- The steps of `exp`: how large k can be, and k as a float and as a whole number. Assumes nothing.
+-- What `general` of `exp` gives on each path: how large k can be, k as a float and as a whole number, and the result. Assumes nothing.
 use mathlib.Core.Path.{_≡_, refl, sym, ap, _∙_, subst}
 use mathlib.Core.Bool.{Bool, true, false, cond, true≢false}
 use Prim.Native.Nat.{ℕ, zero, suc, _+_, _-_, _*_, _/_, _^_, _≤_, _<_, min}
@@ -7,7 +7,7 @@ use native.Mathlib.Omega.{arith}
 use borrow.Author.Tests.{ltb-false, le-leb, lt-leb}
 use lib.IntN.{pos, negsuc}
 use lib.Dec.{T, le→leb, lt→ltb, lit≤}
-use lib.Ieee.{up, down, Float, nan, inf, fin, binary64, minus, round, neg, sum, add, sub, lt, fits, isNan, ofBits, ofInt, toSigned, inFloat}
+use lib.Ieee.{up, down, Float, nan, inf, fin, binary64, minus, round, neg, sum, add, sub, lt, ne, fits, isNan, ofBits, ofInt, toSigned, inFloat}
 use lib.Ieee.Back.{positive-back, negative-back}
 use lib.Ieee.Exact.{HasValue}
 use lib.Ieee.Scale.{finite}
@@ -16,12 +16,13 @@ use Rattle.arithmetic.specs.Operations.{_⊗_, plusZero, infinity}
 use Rattle.arithmetic.specs.Basic.{isSignMinus, trunc}
 use Rattle.arithmetic.specs.Exp.{invLn2, oThreshold, uThreshold, halfAway, reduced, scaleB, exp}
 use Rattle.arithmetic.specs.Internal.WholePart.{wholePart}
+use Rattle.arithmetic.specs.Laws.Signs.{is-nan}
 use Rattle.arithmetic.specs.Laws.Sums.{add-is}
 use Rattle.arithmetic.specs.Laws.Bounds.{AtMost, round-at-most}
 use Rattle.arithmetic.specs.Laws.PowersOfTwo.{times-fraction}
 
 -- ---- between the two limits x is finite, and its size is at most the limit's on its side
-pub between-finite : (x : Float) → isNan x ≡ false → lt oThreshold x ≡ false → lt x uThreshold ≡ false → T (finite x)
+between-finite : (x : Float) → isNan x ≡ false → lt oThreshold x ≡ false → lt x uThreshold ≡ false → T (finite x)
 unfolding isNan lt ofBits
 between-finite nan n h l = absurd (true≢false n)
 between-finite (inf true) n h l = absurd (true≢false l)
@@ -31,7 +32,8 @@ between-finite (fin s m e) n h l = tt
 abbrev limit : Bool → Float
 limit s = cond s uThreshold oThreshold
 
-within-limit : (x : Float) → T (finite x) → lt oThreshold x ≡ false → lt x uThreshold ≡ false → num x * den (limit (isSignMinus x)) ≤ num (limit (isSignMinus x)) * den x
+within-limit : (x : Float) → T (finite x) → lt oThreshold x ≡ false → lt x uThreshold ≡ false
+    → num x * den (limit (isSignMinus x)) ≤ num (limit (isSignMinus x)) * den x
 unfolding lt ofBits
 within-limit nan p h l = absurd p
 within-limit (inf s) p h l = absurd p
@@ -80,17 +82,21 @@ pub record Known (s : Bool) (w : Float) : Type 0 where
   pub size : num w / den w ≤ most s
 
 -- the product by 1 / ln 2 of what is at most `bound` in size
-pub product-at-most : (x bound r : Float) → T (finite x) → num x * den bound ≤ num bound * den x → T (fits binary64 r) → T (finite r) → num bound * num invLn2 * den r ≤ num r * (den bound * den invLn2) → AtMost (isSignMinus x) r (x ⊗ invLn2)
+pub product-at-most : (x bound r : Float) → T (finite x) → num x * den bound ≤ num bound * den x → T (fits binary64 r) → T (finite r)
+    → num bound * num invLn2 * den r ≤ num r * (den bound * den invLn2) → AtMost (isSignMinus x) r (x ⊗ invLn2)
 product-at-most x bound r p h F q g =
-    subst (λ (z : Float). AtMost (isSignMinus x) r z) (sym (times-fraction x invLn2 (num invLn2) (den invLn2) p (invLn2-value .1) (den-pos invLn2) (invLn2-value .0)))
+    let product = times-fraction x invLn2 (num invLn2) (den invLn2) p (invLn2-value .1) (den-pos invLn2) (invLn2-value .0) in
+    subst (λ (z : Float). AtMost (isSignMinus x) r z) (sym product)
     (round-at-most binary64 (isSignMinus x) (num x * num invLn2) (den x * den invLn2) r (mul-pos (den-pos x) (den-pos invLn2)) F q
-    (through (num x * num invLn2) (num bound * num invLn2) (num r) (den x * den invLn2) (den bound * den invLn2) (den r) (mul-pos (den-pos bound) (den-pos invLn2))
+    (through (num x * num invLn2) (num bound * num invLn2) (num r) (den x * den invLn2) (den bound * den invLn2) (den r)
+    (mul-pos (den-pos bound) (den-pos invLn2))
     (le-trans (le-of-eq (mul-mul-mul-comm (num x) (num invLn2) (den bound) (den invLn2)))
     (le-trans (mul-le-mul-right (num invLn2 * den invLn2) h) (le-of-eq (mul-mul-mul-comm (num bound) (den x) (num invLn2) (den invLn2)))))
     g))
 
 -- and a half away from zero
-pub half-away-round : (s : Bool) (x : Float) → T (finite (x ⊗ invLn2)) → isSignMinus (x ⊗ invLn2) ≡ s → halfAway s x ≡ round binary64 s (num (x ⊗ invLn2) * 2 + 1 * 1 * den (x ⊗ invLn2)) (den (x ⊗ invLn2) * 2)
+pub half-away-round : (s : Bool) (x : Float) → T (finite (x ⊗ invLn2)) → isSignMinus (x ⊗ invLn2) ≡ s
+    → let w = x ⊗ invLn2 in halfAway s x ≡ round binary64 s (num w * 2 + 1 * 1 * den w) (den w * 2)
 half-away-round s x p e =
     let w = x ⊗ invLn2 in
     half-away-is s x
@@ -107,7 +113,8 @@ module _ (x : Float) (p : T (finite x)) (h : num x * den (limit (isSignMinus x))
       let w = x ⊗ invLn2 in
       let b : AtMost s (first s) w = product-at-most x (limit s) (first s) p h (both-fit s .0) tt (limit-times s) in
       subst (λ (z : Float). AtMost s (second s) z) (sym (half-away-round s x (b .is-finite) (b .sign)))
-      (round-at-most binary64 s (num w * 2 + 1 * 1 * den w) (den w * 2) (second s) (mul-pos (den-pos w) (lit≤ tt)) (both-fit s .1) tt (half-more (most s) (num w) (den w) (b .bound)))
+      (round-at-most binary64 s (num w * 2 + 1 * 1 * den w) (den w * 2) (second s) (mul-pos (den-pos w) (lit≤ tt)) (both-fit s .1) tt
+      (half-more (most s) (num w) (den w) (b .bound)))
     where
       half-more : (k n d : ℕ) → n * 4 ≤ (4 * k + 1) * 1 * d → (n * 2 + 1 * 1 * d) * 4 ≤ (4 * k + 3) * 1 * (d * 2)
       half-more k n d h = omega arith
@@ -128,7 +135,8 @@ module _ (x : Float) (p : T (finite x)) (h : num x * den (limit (isSignMinus x))
       le-of-lt-suc : {a k : ℕ} → a < k + 1 → a ≤ k
       le-of-lt-suc h = omega arith
 
-pub known : (x : Float) → isNan x ≡ false → lt oThreshold x ≡ false → lt x uThreshold ≡ false → (s : Bool) (w : Float) → s ≡ isSignMinus x → w ≡ halfAway s x → Known s w
+pub known : (x : Float) → isNan x ≡ false → lt oThreshold x ≡ false → lt x uThreshold ≡ false
+    → (s : Bool) (w : Float) → s ≡ isSignMinus x → w ≡ halfAway s x → Known s w
 known x n h l s w e v =
     let p : T (finite x) = between-finite x n h l in
     subst (Known s) (sym v) (subst (λ (t : Bool). Known t (halfAway t x)) (sym e) (known-at x p (within-limit x p h l)))
@@ -163,13 +171,16 @@ place-lt true n h = omega arith
 place-lt false n h = omega arith
 
 minus-up : (n : ℕ) → minus (1075 + n) 1075 ≡ pos n
-minus-up n = ap (λ (b : Bool). cond b (pos (1075 + n - 1075)) (negsuc (1075 - suc (1075 + n)))) (le-leb 1075 (1075 + n) (omega arith)) ∙ ap pos same
+minus-up n =
+    ap (λ (b : Bool). cond b (pos (1075 + n - 1075)) (negsuc (1075 - suc (1075 + n)))) (le-leb 1075 (1075 + n) (omega arith)) ∙ ap pos same
   where
     same : 1075 + n - 1075 ≡ n
     same = omega arith
 
 minus-down : (n : ℕ) → suc n ≤ 1075 → minus (1075 - suc n) 1075 ≡ negsuc n
-minus-down n h = ap (λ (b : Bool). cond b (pos (1075 - suc n - 1075)) (negsuc (1075 - suc (1075 - suc n)))) (lt-leb 1075 (1075 - suc n) (omega arith)) ∙ ap negsuc same
+minus-down n h =
+    ap (λ (b : Bool). cond b (pos (1075 - suc n - 1075)) (negsuc (1075 - suc (1075 - suc n)))) (lt-leb 1075 (1075 - suc n) (omega arith))
+    ∙ ap negsuc same
   where
     same : 1075 - suc (1075 - suc n) ≡ n
     same = omega arith
@@ -197,12 +208,16 @@ down-is n = refl
 whole-number : (s : Bool) (n : ℕ) → n ≤ 1075 → toSigned 63 (round binary64 s n 1) ≡ minus (place s n) 1075
 whole-number false n h = ap (toSigned 63) (sym (up-is n)) ∙ positive-back binary64 63 n (in-float n h .0) (in-float n h .1) .1 ∙ sym (minus-up n)
 whole-number true zero h = signed-zero
-whole-number true (suc n) h = ap (toSigned 63) (sym (down-is n)) ∙ negative-back binary64 63 n (in-float-below n h .0) (in-float-below n h .1) .1 ∙ sym (minus-down n h)
+whole-number true (suc n) h =
+    ap (toSigned 63) (sym (down-is n)) ∙ negative-back binary64 63 n (in-float-below n h .0) (in-float-below n h .1) .1 ∙ sym (minus-down n h)
 
 -- ---- the four ways out
-pub exp-nan : exp nan ≡ nan
+exp-nan : exp nan ≡ nan
 unfolding exp isNan
 exp-nan = refl
+
+pub exp-of-nan : (x : Float) → ne x x ≡ true → x ≡ exp x
+exp-of-nan x h = let e = is-nan x h in e ∙ sym (ap exp e ∙ exp-nan)
 
 module _ (x : Float) (n : isNan x ≡ false) where
   pub exp-over : lt oThreshold x ≡ true → infinity ≡ exp x
@@ -214,11 +229,12 @@ module _ (x : Float) (n : isNan x ≡ false) where
     unfolding exp
     exp-under l = rw (n, h, l) refl
 
-    exp-between : lt x uThreshold ≡ false → exp x ≡ scaleB (reduced x (trunc (halfAway (isSignMinus x) x))) (toSigned 63 (trunc (halfAway (isSignMinus x) x)))
+    exp-between : lt x uThreshold ≡ false → let k = trunc (halfAway (isSignMinus x) x) in exp x ≡ scaleB (reduced x k) (toSigned 63 k)
     unfolding exp
     exp-between l = rw (n, h, l) refl
 
-    pub exp-is : (l : lt x uThreshold ≡ false) (s : Bool) (w : Float) (m : ℕ) → s ≡ isSignMinus x → w ≡ halfAway s x → m ≡ wholePart w → scaleB (reduced x (round binary64 s m 1)) (minus (place s m) 1075) ≡ exp x
+    pub exp-is : (l : lt x uThreshold ≡ false) (s : Bool) (w : Float) (m : ℕ) → s ≡ isSignMinus x → w ≡ halfAway s x → m ≡ wholePart w
+        → scaleB (reduced x (round binary64 s m 1)) (minus (place s m) 1075) ≡ exp x
     exp-is l s w m e v p =
         let K : Known s w = known x n h l s w e v in
         let k = trunc (halfAway (isSignMinus x) x) in
@@ -231,3 +247,11 @@ module _ (x : Float) (n : isNan x ≡ false) where
         ap (scaleB (reduced x (round binary64 s m 1))) (sym (whole-number s m (le-trans (part-le s w m K p) (most-le s))))
         ∙ ap (λ (z : Float). scaleB (reduced x z) (toSigned 63 z)) (sym k-is)
         ∙ sym (exp-between l)
+
+    -- with y and the biased exponent as the code computes them
+    pub exp-scaled : (l : lt x uThreshold ≡ false) (s : Bool) (w : Float) (m : ℕ) → s ≡ isSignMinus x → w ≡ halfAway s x → m ≡ wholePart w
+        → (y : Float) (e : ℕ) → y ≡ reduced x (round binary64 s m 1) → e ≡ place s m → scaleB y (minus e 1075) ≡ exp x
+    exp-scaled l s w m d v p y e Y E =
+        ap (λ (z : Float). scaleB z (minus e 1075)) Y
+        ∙ ap (λ (i : ℕ). scaleB (reduced x (round binary64 s m 1)) (minus i 1075)) E
+        ∙ exp-is l s w m d v p

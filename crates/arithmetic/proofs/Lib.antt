@@ -15,4 +15,5 @@ mod MaxMin
 mod ExpGeneral
 mod LnPaths
 mod ExpZeroSign
+mod ExpPower
 mod ExpFast

@@ -1,19 +1,23 @@
 -- `arithmetic::exp::exp_product` meets its contract: `fast` is called where both its tests hold of both arguments. Assumes nothing.
-use mathlib.Core.Bool.{Bool, _&&_}
 use lib.Dec.{T}
 use Rattle.arithmetic.specs.Internal.Exp.{inFastRange, clearOfTie}
 use Rattle.arithmetic.proofs.ExpFast.{passed, both-true}
 use Rattle.arithmetic.proofs.exp.exp_product.Statement.{statement}
 use Rattle.arithmetic.proofs.exp.exp_product.Tie as tie
 
-both-in-range : (c : tie.Then1) → let start = c .before .before .before in T (inFastRange (start .args .x)) × T (inFastRange (start .args .y))
+-- the start, from the place where the range of the arguments is tested
+abbrev start : tie.After-is-in-fast-range2 → tie.Start
+start c = c .before .before
+
+both-in-range : (c : tie.Then1) → let a = start (c .before) .args in T (inFastRange (a .x)) × T (inFastRange (a .y))
 both-in-range c =
     let at-y = c .before in
     let at-x = at-y .before in
     let both = both-true _ _ (c .if1 .taken) in
     (passed (both .0) (at-x .is-in-fast-range .ensures), passed (both .1) (at-y .is-in-fast-range2 .ensures))
 
-both-clear : (c : tie.Then2) → let in-range = c .before .before .before in let start = in-range .before .before .before in T (clearOfTie (start .args .x)) × T (clearOfTie (start .args .y))
+both-clear : (c : tie.Then2)
+    → let at-x = c .before .before in let a = start (at-x .before .before) .args in T (clearOfTie (a .x)) × T (clearOfTie (a .y))
 both-clear c =
     let at-y = c .before in
     let at-x = at-y .before in

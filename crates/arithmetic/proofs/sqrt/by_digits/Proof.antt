@@ -1,6 +1,6 @@
 -- `arithmetic::sqrt::by_digits` meets its contract, by the laws of `SqrtDigits`. The invariant: r is the whole root of the upper digits. The measure is the
 -- iterations that are left. Assumes nothing.
-use Prim.Native.Nat.{_-_, _*_, _≤_, _<_}
+use Prim.Native.Nat.{_-_, _≤_}
 use mathlib.Core.Logic.{⊎-elim}
 use native.Mathlib.Omega.{arith}
 use Rattle.arithmetic.proofs.SqrtDigits.{Upper, Small, small, upper-none, next-0, next-1, nearest-above, nearest-itself, closest-of}

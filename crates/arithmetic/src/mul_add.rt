@@ -15,11 +15,11 @@ use super::format::EXPONENT_FIELD;
 use super::format::FRACTION_DIGITS;
 use super::format::FRACTION_FIELD;
 use super::format::INFINITY;
-use super::format::LEADING_DIGIT;
 use super::format::LOWEST;
 use super::format::NORMAL_DIGITS;
 use super::format::PRECISION;
 use super::format::SIGN;
+use super::format::TWO_TO_52;
 use super::pair;
 use super::pair::Pair;
 
@@ -67,7 +67,7 @@ fn decode(x: f64) -> Parts
     } else {
         Parts {
             negative,
-            m: digits + LEADING_DIGIT,
+            m: digits + TWO_TO_52,
             j: field - 1,
         }
     }

@@ -22,9 +22,7 @@ use super::format::SIGN;
 use super::format::TWO_TO_52;
 use super::pair;
 use super::pair::Pair;
-
-// Binary digits of one half of a pair.
-const WORD: u64 = 64;
+use super::pair::WORD;
 
 // A product has 106 binary digits at most, and can be shifted up by so many within a pair.
 const HEADROOM: u64 = 20;

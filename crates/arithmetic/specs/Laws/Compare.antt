@@ -1,4 +1,4 @@
--- Comparisons of two values and of 2 ^ k times each agree; and what is no NaN. Assumes nothing.
+-- Comparisons of two values and of 2 ^ k times each agree; and three tests by which a value is no NaN. Assumes nothing.
 use mathlib.Core.Path.{_≡_, refl, sym, ap, _∙_}
 use Prim.Native.Nat.{ℕ, _+_, _*_, _^_, _<_}
 use native.Mathlib.Nat.{mul-assoc, mul-comm, mul-left-comm, mul-pos}
@@ -13,7 +13,7 @@ use Rattle.arithmetic.specs.Laws.Ratio.{ltb-ratio, eqb-ratio, zero-ratio
 use Rattle.arithmetic.specs.Basic.{isSignMinus}
 use Rattle.arithmetic.specs.Laws.Times.{Times}
 
--- ---- two values x and y, and 2 ^ k times each, over common denominators: in the proportion of den x * den y to 2 ^ k * (den x' * den y')
+-- ---- over common denominators two values x, y and 2 ^ k times each are in the proportion of den x * den y to 2 ^ k * (den x' * den y')
 pub cross-left : (nx dx nx' dx' dy dy' t : ℕ) → nx' * dx ≡ nx * t * dx' → nx' * dy' * (dx * dy) ≡ nx * dy * (t * (dx' * dy'))
 cross-left nx dx nx' dx' dy dy' t e =
     (let r : nx' * dy' * (dx * dy) ≡ nx' * dx * (dy * dy') = simp (mul-assoc, mul-comm, mul-left-comm) in r)
@@ -25,7 +25,9 @@ left-ratio k x y x' y' h = cross-left (num x) (den x) (num x') (den x') (den y) 
 
 pub right-ratio : (k : ℕ) (x y x' y' : Float) → Times k y y' → num y' * den x' * (den x * den y) ≡ num y * den x * (2 ^ k * (den x' * den y'))
 right-ratio k x y x' y' h =
-    ap (λ (z : ℕ). num y' * den x' * z) (mul-comm (den x) (den y)) ∙ left-ratio k y x y' x' h ∙ ap (λ (z : ℕ). num y * den x * (2 ^ k * z)) (mul-comm (den y') (den x'))
+    ap (λ (z : ℕ). num y' * den x' * z) (mul-comm (den x) (den y))
+    ∙ left-ratio k y x y' x' h
+    ∙ ap (λ (z : ℕ). num y * den x * (2 ^ k * z)) (mul-comm (den y') (den x'))
 
 -- ---- the comparisons, by sign and fraction
 pub lt-is : (x y : Float) → T (finite x) → T (finite y) → lt x y ≡ below (isSignMinus x) (num x * den y) (isSignMinus y) (num y * den x)
@@ -64,12 +66,14 @@ module _ (k : ℕ) (x y x' y' : Float) (h : Times k x x') (g : Times k y y') whe
   pub lt-times : lt x' y' ≡ lt x y
   lt-times =
       rw (lt-is x' y' (h .finite-r) (g .finite-r), lt-is x y (h .finite-l) (g .finite-l), h .sign, g .sign)
-      (below-ratio (den x * den y) (2 ^ k * (den x' * den y')) D D' (isSignMinus x) (isSignMinus y) (num x * den y) (num y * den x) (num x' * den y') (num y' * den x') (left-ratio k x y x' y' h) (right-ratio k x y x' y' g))
+      (below-ratio (den x * den y) (2 ^ k * (den x' * den y')) D D' (isSignMinus x) (isSignMinus y)
+      (num x * den y) (num y * den x) (num x' * den y') (num y' * den x') (left-ratio k x y x' y' h) (right-ratio k x y x' y' g))
 
   pub eq-times : eq x' y' ≡ eq x y
   eq-times =
       rw (eq-is x' y' (h .finite-r) (g .finite-r), eq-is x y (h .finite-l) (g .finite-l), h .sign, g .sign)
-      (level-ratio (den x * den y) (2 ^ k * (den x' * den y')) D D' (isSignMinus x) (isSignMinus y) (num x * den y) (num y * den x) (num x' * den y') (num y' * den x') (left-ratio k x y x' y' h) (right-ratio k x y x' y' g))
+      (level-ratio (den x * den y) (2 ^ k * (den x' * den y')) D D' (isSignMinus x) (isSignMinus y)
+      (num x * den y) (num y * den x) (num x' * den y') (num y' * den x') (left-ratio k x y x' y' h) (right-ratio k x y x' y' g))
 
   pub le-times : le x' y' ≡ le x y
   unfolding le

@@ -11,7 +11,7 @@ use lib.Ieee.Scale.{finite}
 use lib.Ieee.Positive.{num, den, den-pos}
 use Rattle.arithmetic.specs.Laws.Ratio.{ltb-ratio, eqb-ratio, zero-ratio, add-ratio}
 use Rattle.arithmetic.specs.Basic.{isSignMinus}
-use Rattle.arithmetic.specs.Laws.Times.{Times}
+use Rattle.arithmetic.specs.Laws.Times.{Times, both-finite}
 
 -- ---- over common denominators two values x, y and 2 ^ k times each are in the proportion of den x * den y to 2 ^ k * (den x' * den y')
 pub cross-left : (nx dx nx' dx' dy dy' t : ℕ) → nx' * dx ≡ nx * t * dx' → nx' * dy' * (dx * dy) ≡ nx * dy * (t * (dx' * dy'))
@@ -32,19 +32,11 @@ right-ratio k x y x' y' h =
 -- ---- the comparisons, by sign and fraction
 pub lt-is : (x y : Float) → T (finite x) → T (finite y) → lt x y ≡ below (isSignMinus x) (num x * den y) (isSignMinus y) (num y * den x)
 unfolding lt
-lt-is nan y p q = absurd p
-lt-is (inf s) y p q = absurd p
-lt-is (fin s m e) nan p q = absurd q
-lt-is (fin s m e) (inf t) p q = absurd q
-lt-is (fin s m e) (fin t n d) p q = refl
+lt-is = both-finite _ (λ s m e t n d. refl)
 
 pub eq-is : (x y : Float) → T (finite x) → T (finite y) → eq x y ≡ level (isSignMinus x) (num x * den y) (isSignMinus y) (num y * den x)
 unfolding eq
-eq-is nan y p q = absurd p
-eq-is (inf s) y p q = absurd p
-eq-is (fin s m e) nan p q = absurd q
-eq-is (fin s m e) (inf t) p q = absurd q
-eq-is (fin s m e) (fin t n d) p q = refl
+eq-is = both-finite _ (λ s m e t n d. refl)
 
 below-ratio : (p q : ℕ) → 0 < p → 0 < q → (s t : Bool) (a b a' b' : ℕ) → a' * p ≡ a * q → b' * p ≡ b * q → below s a' t b' ≡ below s a t b
 below-ratio p q P Q false false a b a' b' e g = ltb-ratio p q P Q a b a' b' e g

@@ -2,6 +2,7 @@
 use mathlib.Core.Path.{_≡_, refl, sym, ap, _∙_}
 use Prim.Native.Nat.{ℕ, _*_, _^_, _<_}
 use mathlib.Core.Bool.{Bool, false, not}
+use lib.IntN.{ℤ}
 use lib.Dec.{T}
 use lib.Ieee.{Float, nan, inf, fin, neg}
 use lib.Ieee.Exact.{HasValue}
@@ -16,6 +17,15 @@ pub record Times (k : ℕ) (x y : Float) : Type 0 where
   pub finite-r : T (finite y)
   pub sign : isSignMinus y ≡ isSignMinus x
   pub value : num y * den x ≡ num x * 2 ^ k * den y
+
+-- ---- what holds of any two values with digits holds of two finite ones
+pub both-finite : (P : Float → Float → Type 0)
+    → ((s : Bool) (m : ℕ) (e : ℤ) (t : Bool) (n : ℕ) (d : ℤ) → P (fin s m e) (fin t n d)) → (x y : Float) → T (finite x) → T (finite y) → P x y
+both-finite P h nan y p q = absurd p
+both-finite P h (inf s) y p q = absurd p
+both-finite P h (fin s m e) nan p q = absurd q
+both-finite P h (fin s m e) (inf t) p q = absurd q
+both-finite P h (fin s m e) (fin t n d) p q = h s m e t n d
 
 -- ---- from the fractions that two values equal
 pub cross : (x : Float) (s : Bool) (a c : ℕ) → HasValue x s a c → num x * c ≡ a * den x

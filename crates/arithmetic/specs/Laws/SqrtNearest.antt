@@ -17,7 +17,7 @@ use Rattle.arithmetic.specs.Sqrt.{closestRoot, sqrtUnits, sqrt}
 use Rattle.arithmetic.specs.Laws.Numbers.{four, four-pos, pow-split, size-gt, size-mul, all-ones}
 use Rattle.arithmetic.specs.Laws.Times.{positive-value, rescale}
 use Rattle.arithmetic.specs.Laws.Representable.{representable}
-use Rattle.arithmetic.specs.Laws.WholeRoots.{near, units-at}
+use Rattle.arithmetic.specs.Laws.WholeRoots.{closest-is-nearest, units-at}
 use Rattle.arithmetic.specs.Laws.SqrtValues.{sqrt-of}
 
 -- r is q * 2 ^ k units of 2 ^ -1074, and x is a units of 2 ^ -2148. The real root of x lies strictly between q - 1 / 2 and q + 1 / 2 times
@@ -62,7 +62,7 @@ nearest-root-at : (x : Float) (A n k : ℕ) → 0 < A → HasValue x false A (2 
 nearest-root-at x A n k A-pos v e lo hi K =
     let q = closestRoot n 0 in
     let n-lt : n < 2 ^ 106 = omega arith in
-    let N = near n (lt-of-lt-of-le (pow-pos 104) lo) n-lt in
+    let N = closest-is-nearest n (lt-of-lt-of-le (pow-pos 104) lo) n-lt in
     let ql : 2 ^ 52 ≤ q = near-low n q lo (N .1) in
     let r-is : sqrt x ≡ odd 53 false q k 1074 = sqrt-of x A A-pos v ∙ ap sqrtUnits e ∙ units-at n k lo n-lt in
     let four-a : 4 * n * 4 ^ k ≡ 4 * (A * 2 ^ 1074) = mul-assoc 4 n (4 ^ k) ∙ ap (λ (z : ℕ). 4 * z) (sym e) in

@@ -44,8 +44,9 @@ closestRoot-is : (a k q : ℕ) → root 53 (a / 4 ^ k) ≡ q → closestRoot a k
 unfolding closestRoot
 closestRoot-is a k q e = ap (λ (r : ℕ). cond (ltb ((2 * r + 1) * (2 * r + 1) * 4 ^ k) (4 * a)) (r + 1) r) e
 
-pub near : (n : ℕ) → 0 < n → n < 4 ^ 53 → Nearest n (closestRoot n 0)
-near n p hi = subst (λ (r : ℕ). Nearest n r) (sym (closestRoot-is n 0 (root 53 n) (ap (root 53) (div-one n)))) (go (root 53 n) (root-is 53 n hi))
+pub closest-is-nearest : (n : ℕ) → 0 < n → n < 4 ^ 53 → Nearest n (closestRoot n 0)
+closest-is-nearest n p hi =
+    subst (λ (r : ℕ). Nearest n r) (sym (closestRoot-is n 0 (root 53 n) (ap (root 53) (div-one n)))) (go (root 53 n) (root-is 53 n hi))
   where
     some : (q : ℕ) → IsRoot n q → 0 < q
     some zero h = absurd (no p (h .1))
@@ -75,7 +76,7 @@ near-le n (suc p) q h k = lt-of-not-le (λ (g : q ≤ p). no (mul-le-mul g g) g)
 
 pub nearest-root : (n r : ℕ) → 0 < n → n < 4 ^ 53 → Nearest n r → closestRoot n 0 ≡ r
 nearest-root n r p hi h =
-    let k = near n p hi in
+    let k = closest-is-nearest n p hi in
     le-antisymm (near-le n (closestRoot n 0) r (k .0) (h .1)) (near-le n r (closestRoot n 0) (h .0) (k .1))
 
 -- ---- 4 ^ j times a number: the numbers that `closestRoot` looks at are the same

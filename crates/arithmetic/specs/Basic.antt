@@ -31,8 +31,8 @@ trunc nan = nan
 trunc (inf s) = inf s
 trunc (fin s m e) = round binary64 s (m * up e / down e) 1
 
--- whether `max` takes x rather than y: the larger; of two that are equal, which may be zeros, x where its sign is clear
--- by x < y, y < x and the sign of x
+-- whether `max` takes x rather than y, by x < y, y < x and the sign of x: the larger, and of two that are equal, which may be zeros, x where
+-- its sign is clear
 abbrev pub takesFirstBy : Bool → Bool → Bool → Bool
 takesFirstBy l g s = cond l false (cond g true (not s))
 

@@ -16,8 +16,7 @@ use super::format::SIGN;
 use super::format::TWO_TO_52;
 use super::format::WHOLE_FIELD;
 
-// Below this exponent's field a value is below 1, and more than 63 digits of its significand would be dropped:
-// WHOLE_FIELD - 63.
+// WHOLE_FIELD - 63: the least exponent's field at which a shift gives the whole part. Below it a value is below 1.
 const FIRST_SHIFTED_FIELD: u64 = 1012;
 
 // Of NaN, NaN: as a quotient, since for a cheaper operation the compiler computes both results and

@@ -103,7 +103,7 @@ round-at-most f s a c v C F p h =
       bound = not-above f s a c v C F p under h;
     }
 
--- ---- zeros and infinities
+-- ---- what rounds to a zero, and what to an infinity
 tie-zero : closest 1 2 ≡ 0
 tie-zero = refl
 

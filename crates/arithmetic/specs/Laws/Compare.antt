@@ -47,7 +47,7 @@ below-ratio p q P Q true true a b a' b' e g = ltb-ratio p q P Q b a b' a' g e
 level-ratio : (p q : ℕ) → 0 < p → 0 < q → (s t : Bool) (a b a' b' : ℕ) → a' * p ≡ a * q → b' * p ≡ b * q → level s a' t b' ≡ level s a t b
 level-ratio p q P Q s t a b a' b' e g = rw (eqb-ratio p q P Q a b a' b' e g, eqb-ratio p q P Q a 0 a' 0 e (zero-ratio p q))
 
--- ---- the laws
+-- ---- comparisons of x and y, and of 2 ^ k times each
 module _ (k : ℕ) (x y x' y' : Float) (h : Times k x x') (g : Times k y y') where
   D : 0 < den x * den y
   D = mul-pos (den-pos x) (den-pos y)
@@ -71,7 +71,7 @@ module _ (k : ℕ) (x y x' y' : Float) (h : Times k x x') (g : Times k y y') whe
   unfolding le
   le-times = rw (lt-times, eq-times)
 
--- ---- no NaN
+-- ---- tests by which x is no NaN
 pub finite-no-nan : (x : Float) → T (finite x) → isNan x ≡ false
 unfolding isNan
 finite-no-nan nan p = absurd p

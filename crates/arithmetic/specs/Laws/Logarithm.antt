@@ -29,7 +29,7 @@ use Rattle.arithmetic.specs.Laws.Times.{has-sign, positive-sign}
 use Rattle.arithmetic.specs.Laws.Patterns.{ofBits-is, read-zero, read-more, finite-field, subnormal, normal, built, bits-no-nan}
 use Rattle.arithmetic.specs.Laws.Representable.{round-self}
 
--- ---- a units, a being q * 2 ^ d / 2 ^ 52 for a q of 53 digits
+-- ---- a value of a units of 2 ^ -1074, with a = q * 2 ^ d / 2 ^ 52 for a q of 53 digits
 module _ (a q d : ℕ) (is : a * 2 ^ 52 ≡ q * 2 ^ d) (lo : 2 ^ 52 ≤ q) (hi : q < 2 ^ 53) where
   size-at : size a ≡ d + 1
   size-at =
@@ -103,7 +103,7 @@ module _ (a q d : ℕ) (is : a * 2 ^ 52 ≡ q * 2 ^ d) (lo : 2 ^ 52 ≤ q) (hi :
       ∙ sym (round-self binary64 v false (q * 2 ^ c .e) (2 ^ 1074) (pow-pos 1074) v-fits (odd-sign 53 false q (c .e) 1074))
       ∙ sym (round-same binary64 false a (2 ^ place a) (q * 2 ^ c .e) (2 ^ 1074) (pow-pos (place a)) (pow-pos 1074) (scaled-at (c .e) (place a) (c .exact)))
 
--- ---- a value above zero
+-- ---- m and k of a value above zero
 inUnits-is : (x : Float) (a : ℕ) → HasValue x false a (2 ^ 1074) → inUnits x ≡ a
 inUnits-is x a v = ap (λ (y : ℕ). y / den x) (value→cross x a (2 ^ 1074) v) ∙ mul-div-cancel a (den-pos x)
 
@@ -126,7 +126,7 @@ decomposed-at x a q d v is lo hi =
       exact = subst (λ (y : ℕ). HasValue (round binary64 false y (2 ^ place y)) false y (2 ^ place y)) e (exact-at a q d is lo hi);
     }
 
--- ---- the pattern of such a value
+-- ---- the pattern of a value above zero
 sign-is : (s : Bool) (g t : ℕ) → g < 2048 → T (finite (ofFields binary64 s g t)) → isSignMinus (ofFields binary64 s g t) ≡ s
 sign-is s zero t G h = has-sign (ofFields binary64 s 0 t) s (t * 2 ^ 0) (2 ^ 1074) (read-zero s t)
 sign-is s (suc g) t G h =
@@ -150,7 +150,7 @@ positive-bits x p f =
     let part : g ≡ 2047 → ⊥ = finite-field s g t fine in
     (omega arith, omega arith)
 
--- of a normal value
+-- what the pattern of a normal value stands for
 read-normal : (x : Float) (b : ℕ) → ofBits binary64 b ≡ x → 4503599627370496 ≤ b → b < 9218868437227405312
     → HasValue x false ((4503599627370496 + b % 4503599627370496) * 2 ^ (b / 4503599627370496 - 1)) (2 ^ 1074)
 read-normal x b X lo hi =

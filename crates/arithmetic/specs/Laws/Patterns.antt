@@ -61,20 +61,20 @@ finite-field s x t h e = go (eqb t 0) (subst (λ (y : ℕ). T (finite (ofFields 
     go false k = k
 
 -- ---- patterns with the sign clear
-positive : (b : ℕ) → b < 9223372036854775808 → ofBits binary64 b ≡ ofFields binary64 false (b / 4503599627370496) (b % 4503599627370496)
-positive b h = ap (ofBits binary64) (sym (zero-add b)) ∙ signed-is false b h
+unsigned-is : (b : ℕ) → b < 9223372036854775808 → ofBits binary64 b ≡ ofFields binary64 false (b / 4503599627370496) (b % 4503599627370496)
+unsigned-is b h = ap (ofBits binary64) (sym (zero-add b)) ∙ signed-is false b h
 
 -- a subnormal value, or zero
 pub subnormal : (b : ℕ) → b < 4503599627370496 → ofBits binary64 b ≡ odd 53 false b 0 1074
 subnormal b h =
     let e : b / 4503599627370496 ≡ 0 = omega arith in
-    positive b (omega arith) ∙ rw (e, mod-eq-of-lt h) (at-zero false b)
+    unsigned-is b (omega arith) ∙ rw (e, mod-eq-of-lt h) (at-zero false b)
 
 pub normal : (b : ℕ) → 4503599627370496 ≤ b → b < 9218868437227405312
     → ofBits binary64 b ≡ odd 53 false (4503599627370496 + b % 4503599627370496) (b / 4503599627370496 - 1) 1074
 normal b h k =
     let e : b / 4503599627370496 ≡ suc (b / 4503599627370496 - 1) = omega arith in
-    positive b (omega arith)
+    unsigned-is b (omega arith)
     ∙ ap (λ (x : ℕ). ofFields binary64 false x (b % 4503599627370496)) e
     ∙ under-ones false (b / 4503599627370496 - 1) (b % 4503599627370496) (omega arith)
 
@@ -86,7 +86,7 @@ built k q K lo hi =
     let e : b / 4503599627370496 - 1 ≡ k = omega arith in
     normal b (omega arith) (omega arith) ∙ rw (d, e)
 
--- ---- no NaN
+-- ---- patterns of no NaN
 pub bits-no-nan : (b : ℕ) → b % 9223372036854775808 ≤ 9218868437227405312 → T (not (nanBits binary64 b))
 bits-no-nan b h = false-not (nanBits binary64 b) (nanBits-above binary64 b ∙ le-ltb 9218868437227405312 (b % 9223372036854775808) h)
 

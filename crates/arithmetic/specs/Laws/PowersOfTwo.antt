@@ -29,7 +29,7 @@ scaleB-fin : (s : Bool) (m : ℕ) (e : ℤ) (k : ℤ) → scaleB (fin s m e) k �
 unfolding scaleB
 scaleB-fin s m e k = refl
 
--- a / c times u / d, in two ways
+-- products of equal fractions: n / l = a / c and u / d = p / q
 in-proportion : (n l a c u d p q : ℕ) → n * c ≡ a * l → u * q ≡ p * d → n * u * (c * q) ≡ a * p * (l * d)
 in-proportion n l a c u d p q e g = mul-mul-mul-comm n u c q ∙ ap (λ (z : ℕ). z * (u * q)) e ∙ ap (λ (z : ℕ). a * l * z) g ∙ mul-mul-mul-comm a l p d
 

@@ -8,7 +8,7 @@ use mathlib.Core.Bool.{Bool, true, false, not, cond, true≢false, false≢true}
 use lib.IntN.{ℤ}
 use lib.Dec.{T, eqb}
 use lib.Pow.{pow-add, pow-pos}
-use lib.Ieee.{Float, nan, inf, fin, Format, unlike, up, round, mul, div}
+use lib.Ieee.{Float, nan, inf, Format, unlike, up, round, mul, div}
 use lib.Ieee.Fits.{up-pos, eq→eqb}
 use lib.Ieee.Scale.{finite, round-same}
 use lib.Ieee.Positive.{num, den, den-pos}

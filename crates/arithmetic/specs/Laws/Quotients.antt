@@ -1,7 +1,7 @@
 -- Quotients that are no NaN: of a number by one that is finite and above zero; and 2 / √x, which is finite and at least 2 ^ -1022 for every x
 -- that is finite and above zero. Assumes nothing.
 use mathlib.Core.Path.{_≡_, refl, sym, ap, _∙_, subst}
-use Prim.Native.Nat.{ℕ, zero, suc, _+_, _*_, _^_, _≤_, _<_}
+use Prim.Native.Nat.{ℕ, zero, suc, _*_, _^_, _≤_, _<_}
 use native.Mathlib.Nat.{le-trans, le-of-eq, le-of-lt, le-of-suc-le-suc, one-mul, mul-one, mul-assoc, mul-comm, mul-right-comm, mul-le-mul}
 use native.Mathlib.Nat.{mul-le-mul-left, mul-le-mul-right, le-of-mul-le-mul-right}
 use mathlib.Core.Bool.{Bool, true, false, true≢false, false≢true}

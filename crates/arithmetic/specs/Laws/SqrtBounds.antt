@@ -24,7 +24,7 @@ use Rattle.arithmetic.specs.Laws.ScaledRatios.{PositiveNormal, normal-po
 use Rattle.arithmetic.specs.Laws.SqrtNearest.{sqrt-is-nearest}
 use Rattle.arithmetic.specs.Laws.SqrtScaling.{sqrt-times}
 
--- ---- a root
+-- ---- the root of a finite value above zero
 pub sqrt-finite : (x : Float) → T (positive x) → T (fits binary64 x) → T (finite (sqrt x))
 sqrt-finite x p f = let r = sqrt-is-nearest x p f in has-finite (sqrt x) false (r .q * 2 ^ r .k) (2 ^ 1074) (r .root-value)
 
@@ -99,7 +99,7 @@ root-most x o =
 root-times : (k : ℕ) (x y : Float) → PositiveNormal x → Times (k + k) x y → Times k (sqrt x) (sqrt y)
 root-times k x y o h = sqrt-times k x y (normal-positive x o) (o .held) h
 
--- ---- the product of two roots
+-- ---- the product of two roots of normal values
 square-low : (na da nb db Q : ℕ) → da ≤ na * Q → db ≤ nb * Q → da * db ≤ na * nb * (Q * Q)
 square-low na da nb db Q h g = le-trans (mul-le-mul h g) (le-of-eq (mul-mul-mul-comm na Q nb Q))
 

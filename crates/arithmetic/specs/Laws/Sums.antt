@@ -73,7 +73,7 @@ sum-swap f s t a b c = sum-is f s a t b c ∙ go s t ∙ sym (sum-is f t b s a c
     go true false = apart true false (lt-or-le a b) (lt-or-le b a)
     go false true = apart false true (lt-or-le a b) (lt-or-le b a)
 
--- ---- of two fractions and of 2 ^ k times each
+-- ---- the sum of two fractions, and of 2 ^ k times each
 module _ (f : Format) (k c c' : ℕ) (C : 0 < c) (C' : 0 < c') (s t : Bool) (a b a' b' : ℕ)
     (e : a' * c ≡ a * (2 ^ k * c')) (g : b' * c ≡ b * (2 ^ k * c')) where
   summed-times : (i u v : Bool) → Whole f a c → Whole f b c → T (finite (summed f s a' t b' c' i u v))
@@ -98,7 +98,7 @@ pub add-is : (f : Format) (x y : Float) → T (finite x) → T (finite y)
 unfolding add
 add-is f = both-finite _ (λ s m e t n d. refl)
 
--- ---- the laws. x and y are values of the format; x' and y' need not be
+-- ---- sum and difference of x and y, values of the format, and of x' and y', which are 2 ^ k times each and need not be
 add-times : (f : Format) (k : ℕ) (x y x' y' : Float) → T (fits f x) → T (fits f y) → Times k x x' → Times k y y' → T (finite (add f x' y'))
     → Times k (add f x y) (add f x' y')
 add-times f k x y x' y' F G h g t =

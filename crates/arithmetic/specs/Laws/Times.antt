@@ -76,7 +76,7 @@ rescale x s w l a c L h v =
     of-cross x s a c (has-finite x s w l v) (has-sign x s w l v)
     (sym (same-fraction w l a c (num x) (den x) L (sym h) (sym (cross x s w l v))))
 
--- ---- the negative
+-- ---- the negative of a value
 pub neg-finite : (x : Float) → T (finite x) → T (finite (neg x))
 unfolding neg
 neg-finite nan h = h

@@ -1,4 +1,5 @@
--- What is no larger than a value of the format rounds to no more than that value; below half of the smallest value it rounds to a zero, and from 2 ^ 1024 on to an infinity. Assumes nothing.
+-- Rounding keeps the order of magnitudes: what is at most or at least a value of the format rounds to what is; below half of the smallest
+-- value it rounds to a zero, and from 2 ^ 1024 on to an infinity. Assumes nothing.
 use mathlib.Core.Path.{_≡_, refl, sym, ap, _∙_, subst}
 use Prim.Native.Nat.{ℕ, _-_, _*_, _^_, _≤_, _<_, zero-le}
 use native.Mathlib.Nat.{le-refl, le-trans, le-of-eq, le-of-lt, lt-of-le-of-lt, le-antisymm, mul-one, mul-assoc, div-eq-of-lt}
@@ -9,7 +10,6 @@ use lib.Dec.{T, ltb, eqb, ltb→lt, eqb→eq}
 use lib.Pow.{pow-pos}
 use lib.Ieee.{Float, nan, inf, fin, Format, binary64, low, up, down, size, units, round, neg, le, fits}
 use lib.Ieee.Fits.{round-is}
-use lib.Ieee.Exact.{HasValue}
 use lib.Ieee.Nearest.{closest, closest-mono}
 use lib.Ieee.Order.{transfer, drop, round-mono}
 use lib.Ieee.Scale.{grid, overflow, finite}
@@ -20,8 +20,9 @@ use Rattle.arithmetic.specs.Laws.Rounding.{round-value, round-under}
 use Rattle.arithmetic.specs.Laws.Representable.{round-representable, grid-under}
 use Rattle.arithmetic.specs.Laws.Identities.{round-neg}
 
--- ---- at most a value of the format
-le-cross : (x y : Float) → T (finite x) → T (finite y) → isSignMinus x ≡ false → isSignMinus y ≡ false → T (le x y) → num x * den y ≤ num y * den x
+-- ---- an order of two values above zero, as one of fractions
+le-cross : (x y : Float) → T (finite x) → T (finite y) → isSignMinus x ≡ false → isSignMinus y ≡ false → T (le x y)
+    → num x * den y ≤ num y * den x
 unfolding le
 le-cross nan y p q s t h = absurd p
 le-cross (inf u) y p q s t h = absurd p
@@ -85,7 +86,7 @@ module _ (f : Format) (s : Bool) (a c : ℕ) (v : Float) (C : 0 < c) (F : T (fit
       (den-pos v-rounded) (den-pos rounded) unchanged refl
       (rw (round-num f s a c, round-den f s a c) (plain-order f (num v) (den v) a c (den-pos v) C no-overflow (round-under f s a c t) h))
 
--- r has the sign s, and is v at most in size
+-- r has the sign s, and a magnitude of at most v
 pub record AtMost (s : Bool) (v r : Float) : Type 0 where
   pub is-finite : T (finite r)
   pub sign : isSignMinus r ≡ s
@@ -102,7 +103,7 @@ round-at-most f s a c v C F p h =
       bound = not-above f s a c v C F p under h;
     }
 
--- ---- zeros and infinities
+-- ---- what rounds to a zero, and what to an infinity
 tie-zero : closest 1 2 ≡ 0
 tie-zero = refl
 
@@ -157,7 +158,8 @@ round-to-infinity s a c C h = go s
     plain : round binary64 false a c ≡ inf false
     plain =
         from-top (round binary64 false a c)
-        (subst (λ (z : Float). T (le z (round binary64 false a c))) top (round-mono binary64 (2 ^ 1024) 1 a c (pow-pos 0) C (le-trans h (le-of-eq (sym (mul-one a))))))
+        (subst (λ (z : Float). T (le z (round binary64 false a c))) top
+        (round-mono binary64 (2 ^ 1024) 1 a c (pow-pos 0) C (le-trans h (le-of-eq (sym (mul-one a))))))
 
     go : (s : Bool) → round binary64 s a c ≡ inf s
     go false = plain

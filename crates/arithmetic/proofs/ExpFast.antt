@@ -8,9 +8,10 @@ use native.Mathlib.Nat.{le-div-iff-mul-le, div-lt-iff-lt-mul, mul-one, mul-assoc
 use native.Mathlib.Omega.{arith}
 use mathlib.Core.Bool.{Bool, true, false, not, _&&_, cond, Bool·beq, false≢true}
 use borrow.Author.Tests.{ltb-true, lt-ltb, le-ltb}
-use lib.IntN.{pos, negsuc}
+use lib.IntN.{ℤ, pos, negsuc}
 use lib.Dec.{T, leb, ltb, eqb, lt→ltb, lit≤, lit<}
 use lib.Pow.{pow-pos}
+use denote.Floats.{passes}
 use lib.Ieee.{Float, nan, inf, fin, binary64, up, down, minus, odd, round, sum, sub, neg, lt, fits, isNan, ofBits, toBits, nanBits}
 use lib.Ieee.Bits.{is-true, ofBits-fits, toBits-ofBits}
 use lib.Ieee.Fits.{and-i, and-l, and-r, eq→eqb, round-fits, add-fits}
@@ -33,18 +34,23 @@ use Rattle.arithmetic.specs.Laws.Compare.{finite-no-nan}
 use Rattle.arithmetic.specs.Laws.Bounds.{AtMost, round-at-most, round-at-least}
 use Rattle.arithmetic.specs.Laws.PowersOfTwo.{times-power}
 use Rattle.arithmetic.proofs.Trunc.{whole-large}
-use Rattle.arithmetic.proofs.ExpGeneral.{product-at-most, half-away-round, place, part-is, exp-is}
+use Rattle.arithmetic.proofs.ExpGeneral.{product-at-most, half-away-round, biased-exponent, scaled, whole-part-is, exp-is}
 use Rattle.arithmetic.proofs.ExpPower.{power-at}
 use Rattle.arithmetic.proofs.ExpZeroSign.{either-zero}
 
 -- ---- the fast range, between -708 and 708, lies between the thresholds
-within : (x : Float) → lt x fastLimit ≡ true → lt (neg fastLimit) x ≡ true → T (finite x) × (num x * 1 ≤ 708 * den x)
-unfolding lt neg ofBits
-within nan h l = absurd (false≢true h)
-within (inf true) h l = absurd (false≢true l)
-within (inf false) h l = absurd (false≢true h)
-within (fin true m e) h l = (tt, le-of-lt (ltb-true (m * up e * 1) (708 * down e) l))
-within (fin false m e) h l = (tt, le-of-lt (ltb-true (m * up e * 1) (708 * down e) h))
+-- between -v and v, for a v = n * 2 ^ g
+between-limits : (x : Float) (n : ℕ) (g : ℤ) → lt x (fin false n g) ≡ true → lt (fin true n g) x ≡ true → T (finite x) × (num x * down g < n * up g * den x)
+unfolding lt
+between-limits nan n g h l = absurd (false≢true h)
+between-limits (inf true) n g h l = absurd (false≢true l)
+between-limits (inf false) n g h l = absurd (false≢true h)
+between-limits (fin true m e) n g h l = (tt, ltb-true _ _ l)
+between-limits (fin false m e) n g h l = (tt, ltb-true _ _ h)
+
+within-range : (x : Float) → lt x fastLimit ≡ true → lt (neg fastLimit) x ≡ true → T (finite x) × (num x * 1 ≤ 708 * den x)
+unfolding neg ofBits
+within-range x h l = let b = between-limits x 177 (pos 2) h l in (b .0, le-of-lt (b .1))
 
 between-thresholds : (x : Float) → T (finite x) → num x * 1 ≤ 708 * den x → (lt oThreshold x ≡ false) × (lt x uThreshold ≡ false)
 unfolding lt ofBits
@@ -213,20 +219,16 @@ k-is t S =
     (mul-one (num t * 1) ∙ c ∙ ap (λ (z : ℕ). n * z) (sym (mul-one (den t)))) (mul-assoc 6755399441056767 (den t) 1)
     ∙ difference (S .j)
 
--- ---- the rest of x / ln 2 is below `maxRest`, 1 / 2 - 2 ^ -16, in size
+-- ---- x / ln 2 less k is below `maxRest`, 1 / 2 - 2 ^ -16, in size
 maxRest-fits : T (fits binary64 (fin false 32767 (negsuc 15)))
 unfolding fits
 maxRest-fits = tt
 
-small : (d : Float) → lt d maxRest ≡ true → lt (neg maxRest) d ≡ true → T (finite d) × (num d * 65536 < 32767 * den d)
-unfolding lt neg ofBits
-small nan h l = absurd (false≢true h)
-small (inf true) h l = absurd (false≢true l)
-small (inf false) h l = absurd (false≢true h)
-small (fin true m e) h l = (tt, ltb-true (m * up e * 65536) (32767 * down e) l)
-small (fin false m e) h l = (tt, ltb-true (m * up e * 65536) (32767 * down e) h)
+within-rest : (d : Float) → lt d maxRest ≡ true → lt (neg maxRest) d ≡ true → T (finite d) × (num d * 65536 < 32767 * den d)
+unfolding neg ofBits
+within-rest d h l = between-limits d 32767 (negsuc 15) h l
 
--- the size of a sum
+-- the size of the sum of a and b with the signs s and t
 abbrev apart-by : Bool → Bool → ℕ → ℕ → ℕ
 apart-by s t a b = cond (Bool·beq s t) (a + b) (a - b + (b - a))
 
@@ -272,7 +274,7 @@ rest-small v k u n p K h l =
     let r = round binary64 (z .0) m (den v) in
     let is : v ⊖ k ≡ r = less-whole v k u n p K ∙ z .1 in
     let b : T (finite r) × (num r * 65536 < 32767 * den r) =
-    subst (λ (d : Float). T (finite d) × (num d * 65536 < 32767 * den d)) is (small (v ⊖ k) h l) in
+    subst (λ (d : Float). T (finite d) × (num d * 65536 < 32767 * den d)) is (within-rest (v ⊖ k) h l) in
     lt-of-not-le (λ (g : 32767 * den v ≤ m * 65536).
     not-le-of-lt (b .1) (round-at-least binary64 (z .0) m (den v) (fin false 32767 (negsuc 15)) (den-pos v) maxRest-fits tt (b .0) g))
 
@@ -319,7 +321,7 @@ floor-is s n a d D few h =
     let lo : n * den w ≤ num w = le-of-mul-le-mul-right (le-trans (le-of-eq (under (num k) (den k) (den w) K-cross)) bottom) (den-pos k) in
     let hi : num w < (n + 1) * den w = below (num w) (den w) (den-pos w) (top .bound) in
     let is : n ≡ num w / den w = le-antisymm (le-div-iff-mul-le (den-pos w) .1 lo) (le-of-lt-suc (div-lt-iff-lt-mul (den-pos w) .1 hi)) in
-    is ∙ sym (part-is w (top .is-finite) ∙ min-eq-left (subst (λ (q : ℕ). q ≤ 2 ^ 52) is (omega (arith, few))))
+    is ∙ sym (whole-part-is w (top .is-finite) ∙ min-eq-left (subst (λ (q : ℕ). q ≤ 2 ^ 52) is (omega (arith, few))))
   where
     upper : (n p a d : ℕ) → p ≡ n * d → (a - p + (p - a)) * 65536 < 32767 * d
         → (a * 2 + 1 * 1 * d) * 65536 ≤ suc (n * 65536 + 65534) * 1 * (d * 2)
@@ -341,11 +343,11 @@ floor-is s n a d D few h =
     le-of-lt-suc : {a k : ℕ} → a < k + 1 → a ≤ k
     le-of-lt-suc h = omega arith
 
--- ---- k by its sign and its size
-place-is : (j : ℕ) → 0 < j → place (k-sign j) (k-size j) ≡ 52 + j
-place-is j p = go (lt-or-le j 1023)
+-- ---- k by its sign and its size: its biased exponent, and a k of 0 of either sign
+biased-exponent-is : (j : ℕ) → 0 < j → biased-exponent (k-sign j) (k-size j) ≡ 52 + j
+biased-exponent-is j p = go (lt-or-le j 1023)
   where
-    go : (j < 1023) ⊎ (1023 ≤ j) → place (k-sign j) (k-size j) ≡ 52 + j
+    go : (j < 1023) ⊎ (1023 ≤ j) → biased-exponent (k-sign j) (k-size j) ≡ 52 + j
     go (inl h) = rw (lt-ltb j 1023 h) (omega arith)
     go (inr h) = rw (le-ltb j 1023 h) (omega arith)
 
@@ -357,30 +359,30 @@ unfolding round
 round-zero u = refl
 
 either-sign : (x : Float) → T (fits binary64 x) → T (finite x) → (s u : Bool) (n : ℕ) → (n ≡ 0) ⊎ (u ≡ s)
-    → scaleB (reduced x (round binary64 u n 1)) (minus (place u n) 1075) ≡ scaleB (reduced x (round binary64 s n 1)) (minus (place s n) 1075)
-either-sign x F p s u n (inr e) = ap (λ (v : Bool). scaleB (reduced x (round binary64 v n 1)) (minus (place v n) 1075)) e
+    → scaled x u n ≡ scaled x s n
+either-sign x F p s u n (inr e) = ap (λ (v : Bool). scaled x v n) e
 either-sign x F p s u n (inl e) =
     rw (e, round-zero s, round-zero u, either-zero x F p u s) (ap (λ (q : ℕ). scaleB (reduced x (fin s 0 (pos 0))) (minus q 1075)) (both u s))
   where
-    both : (u s : Bool) → place u 0 ≡ place s 0
+    both : (u s : Bool) → biased-exponent u 0 ≡ biased-exponent s 0
     both true true = refl
     both true false = refl
     both false true = refl
     both false false = refl
 
--- ---- `exp`
+-- ---- so the result is that of `exp`
 module _ (x : Float) (F : T (fits binary64 x)) (h : T (inFastRange x)) where
   abbrev v : Float
   v = x ⊗ invLn2
 
-  size : T (finite x) × (num x * 1 ≤ 708 * den x)
-  size =
+  in-range : T (finite x) × (num x * 1 ≤ 708 * den x)
+  in-range =
       let under = lt x fastLimit in
       let over = lt (neg fastLimit) x in
-      within x (is-true under (and-l under over h)) (is-true over (and-r under over h))
+      within-range x (is-true under (and-l under over h)) (is-true over (and-r under over h))
 
   at-most : AtMost (isSignMinus x) (fin false 511 (pos 1)) v
-  at-most = quotient-at-most x (size .0) (size .1)
+  at-most = quotient-at-most x (in-range .0) (in-range .1)
 
   sum-shifted : Shifted (shifted x)
   sum-shifted = sum-is-shifted v (at-most .is-finite) (at-most .bound)
@@ -428,20 +430,20 @@ module _ (x : Float) (F : T (fits binary64 x)) (h : T (inFastRange x)) where
       let sign : (n ≡ 0) ⊎ (u ≡ s) = subst (λ (b : Bool). (n ≡ 0) ⊎ (u ≡ b)) (at-most .sign) (a .0) in
       let part : n ≡ wholePart (halfAway s x) =
       floor-is s n (num v) (den v) (den-pos v) few (a .1) ∙ ap wholePart (sym (half-away-round s x (at-most .is-finite) (at-most .sign))) in
-      let between = between-thresholds x (size .0) (size .1) in
+      let between = between-thresholds x (in-range .0) (in-range .1) in
       ap (λ (b : ℕ). y ⊗ ofBits binary64 (b * 4503599627370496)) (ap (λ (b : ℕ). b - 4843621399236968448) pattern-is ∙ less j)
       ∙ times-power y (ofBits binary64 (j * 4503599627370496)) (52 + j) (power-at j (S .some) (omega (arith, S .few)))
-      ∙ ap (λ (q : ℕ). scaleB y (minus q 1075)) (sym (place-is j (S .some)))
-      ∙ ap (λ (z : Float). scaleB z (minus (place u n) 1075)) (e ∙ ap (reduced x) k-round)
-      ∙ either-sign x F (size .0) s u n sign
-      ∙ exp-is x (finite-no-nan x (size .0)) (between .0) (between .1) s (halfAway s x) n refl refl part
+      ∙ ap (λ (q : ℕ). scaleB y (minus q 1075)) (sym (biased-exponent-is j (S .some)))
+      ∙ ap (λ (z : Float). scaleB z (minus (biased-exponent u n) 1075)) (e ∙ ap (reduced x) k-round)
+      ∙ either-sign x F (in-range .0) s u n sign
+      ∙ exp-is x (finite-no-nan x (in-range .0)) (between .0) (between .1) s (halfAway s x) n refl refl part
     where
       less : (j : ℕ) → 4843621399236968448 + j - 4843621399236968448 ≡ j
       less j = omega arith
 
 -- ---- the tests, as the code has them
 pub passed : {r b : Bool} → r ≡ true → r ≡ b → T b
-passed p e = subst T (sym (sym e ∙ p)) tt
+passed p e = passes _ (sym e ∙ p)
 
 pub both-true : (a b : Bool) → (a && b) ≡ true → (a ≡ true) × (b ≡ true)
 both-true true true h = (refl, refl)

@@ -21,7 +21,7 @@ use Rattle.arithmetic.specs.Laws.Sums.{add-is}
 use Rattle.arithmetic.specs.Laws.Bounds.{AtMost, round-at-most}
 use Rattle.arithmetic.specs.Laws.PowersOfTwo.{times-fraction}
 
--- ---- between the two limits x is finite, and its size is at most the limit's on its side
+-- ---- between the thresholds x is finite, and its size is at most that of the threshold on its side
 between-finite : (x : Float) → isNan x ≡ false → lt oThreshold x ≡ false → lt x uThreshold ≡ false → T (finite x)
 unfolding isNan lt ofBits
 between-finite nan n h l = absurd (true≢false n)
@@ -29,37 +29,37 @@ between-finite (inf true) n h l = absurd (true≢false l)
 between-finite (inf false) n h l = absurd (true≢false h)
 between-finite (fin s m e) n h l = tt
 
-abbrev limit : Bool → Float
-limit s = cond s uThreshold oThreshold
+abbrev threshold : Bool → Float
+threshold s = cond s uThreshold oThreshold
 
-within-limit : (x : Float) → T (finite x) → lt oThreshold x ≡ false → lt x uThreshold ≡ false
-    → num x * den (limit (isSignMinus x)) ≤ num (limit (isSignMinus x)) * den x
+within-threshold : (x : Float) → T (finite x) → lt oThreshold x ≡ false → lt x uThreshold ≡ false
+    → num x * den (threshold (isSignMinus x)) ≤ num (threshold (isSignMinus x)) * den x
 unfolding lt ofBits
-within-limit nan p h l = absurd p
-within-limit (inf s) p h l = absurd p
-within-limit (fin true m e) p h l = ltb-false (num uThreshold * down e) (m * up e * den uThreshold) l
-within-limit (fin false m e) p h l = ltb-false (num oThreshold * down e) (m * up e * den oThreshold) h
+within-threshold nan p h l = absurd p
+within-threshold (inf s) p h l = absurd p
+within-threshold (fin true m e) p h l = ltb-false (num uThreshold * down e) (m * up e * den uThreshold) l
+within-threshold (fin false m e) p h l = ltb-false (num oThreshold * down e) (m * up e * den oThreshold) h
 
 -- ---- so |k| is at most 1024 above zero, and 1075 below
 abbrev pub most : Bool → ℕ
 most s = cond s 1075 1024
 
--- `most` and a quarter, `most` and three quarters
-abbrev first : Bool → Float
-first s = fin false (4 * most s + 1) (negsuc 1)
+-- bounds of x / ln 2, `most` and a quarter, and of that and a half, `most` and three quarters
+abbrev quotient-bound : Bool → Float
+quotient-bound s = fin false (4 * most s + 1) (negsuc 1)
 
-abbrev second : Bool → Float
-second s = fin false (4 * most s + 3) (negsuc 1)
+abbrev half-away-bound : Bool → Float
+half-away-bound s = fin false (4 * most s + 3) (negsuc 1)
 
-both-fit : (s : Bool) → T (fits binary64 (first s)) × T (fits binary64 (second s))
+both-fit : (s : Bool) → T (fits binary64 (quotient-bound s)) × T (fits binary64 (half-away-bound s))
 unfolding fits
 both-fit true = (tt, tt)
 both-fit false = (tt, tt)
 
-limit-times : (s : Bool) → num (limit s) * num invLn2 * den (first s) ≤ num (first s) * (den (limit s) * den invLn2)
+threshold-times : (s : Bool) → num (threshold s) * num invLn2 * den (quotient-bound s) ≤ num (quotient-bound s) * (den (threshold s) * den invLn2)
 unfolding ofBits
-limit-times true = lit≤ tt
-limit-times false = lit≤ tt
+threshold-times true = lit≤ tt
+threshold-times false = lit≤ tt
 
 invLn2-value : HasValue invLn2 false (num invLn2) (den invLn2) × (0 < num invLn2)
 unfolding ofBits
@@ -75,8 +75,8 @@ unfolding sum
 sum-alike true a b c = refl
 sum-alike false a b c = refl
 
--- what the code knows of w, from which it takes k
-pub record Known (s : Bool) (w : Float) : Type 0 where
+-- w, x / ln 2 and a half, has the sign s, and its whole part is at most `most s`
+pub record Bounded (s : Bool) (w : Float) : Type 0 where
   pub is-finite : T (finite w)
   pub sign : isSignMinus w ≡ s
   pub size : num w / den w ≤ most s
@@ -104,25 +104,25 @@ half-away-round s x p e =
     ∙ ap (λ (t : Bool). sum binary64 t (num w * 2) s (1 * 1 * den w) (den w * 2)) e
     ∙ sum-alike s (num w * 2) (1 * 1 * den w) (den w * 2)
 
-module _ (x : Float) (p : T (finite x)) (h : num x * den (limit (isSignMinus x)) ≤ num (limit (isSignMinus x)) * den x) where
+module _ (x : Float) (p : T (finite x)) (h : num x * den (threshold (isSignMinus x)) ≤ num (threshold (isSignMinus x)) * den x) where
   abbrev s : Bool
   s = isSignMinus x
 
-  half-away-at-most : AtMost s (second s) (halfAway s x)
+  half-away-at-most : AtMost s (half-away-bound s) (halfAway s x)
   half-away-at-most =
       let w = x ⊗ invLn2 in
-      let b : AtMost s (first s) w = product-at-most x (limit s) (first s) p h (both-fit s .0) tt (limit-times s) in
-      subst (λ (z : Float). AtMost s (second s) z) (sym (half-away-round s x (b .is-finite) (b .sign)))
-      (round-at-most binary64 s (num w * 2 + 1 * 1 * den w) (den w * 2) (second s) (mul-pos (den-pos w) (lit≤ tt)) (both-fit s .1) tt
+      let b : AtMost s (quotient-bound s) w = product-at-most x (threshold s) (quotient-bound s) p h (both-fit s .0) tt (threshold-times s) in
+      subst (λ (z : Float). AtMost s (half-away-bound s) z) (sym (half-away-round s x (b .is-finite) (b .sign)))
+      (round-at-most binary64 s (num w * 2 + 1 * 1 * den w) (den w * 2) (half-away-bound s) (mul-pos (den-pos w) (lit≤ tt)) (both-fit s .1) tt
       (half-more (most s) (num w) (den w) (b .bound)))
     where
       half-more : (k n d : ℕ) → n * 4 ≤ (4 * k + 1) * 1 * d → (n * 2 + 1 * 1 * d) * 4 ≤ (4 * k + 3) * 1 * (d * 2)
       half-more k n d h = omega arith
 
-  known-at : Known s (halfAway s x)
-  known-at =
+  bounded-at : Bounded s (halfAway s x)
+  bounded-at =
       let w = halfAway s x in
-      let b : AtMost s (second s) w = half-away-at-most in
+      let b : AtMost s (half-away-bound s) w = half-away-at-most in
       record {
         is-finite = b .is-finite;
         sign = b .sign;
@@ -135,11 +135,11 @@ module _ (x : Float) (p : T (finite x)) (h : num x * den (limit (isSignMinus x))
       le-of-lt-suc : {a k : ℕ} → a < k + 1 → a ≤ k
       le-of-lt-suc h = omega arith
 
-pub known : (x : Float) → isNan x ≡ false → lt oThreshold x ≡ false → lt x uThreshold ≡ false
-    → (s : Bool) (w : Float) → s ≡ isSignMinus x → w ≡ halfAway s x → Known s w
-known x n h l s w e v =
+pub bounded : (x : Float) → isNan x ≡ false → lt oThreshold x ≡ false → lt x uThreshold ≡ false
+    → (s : Bool) (w : Float) → s ≡ isSignMinus x → w ≡ halfAway s x → Bounded s w
+bounded x n h l s w e v =
     let p : T (finite x) = between-finite x n h l in
-    subst (Known s) (sym v) (subst (λ (t : Bool). Known t (halfAway t x)) (sym e) (known-at x p (within-limit x p h l)))
+    subst (Bounded s) (sym v) (subst (λ (t : Bool). Bounded t (halfAway t x)) (sym e) (bounded-at x p (within-threshold x p h l)))
 
 -- ---- k as a float, and as a whole number
 trunc-is : (w : Float) → T (finite w) → trunc w ≡ round binary64 (isSignMinus w) (num w / den w) 1
@@ -148,27 +148,31 @@ trunc-is nan h = absurd h
 trunc-is (inf s) h = absurd h
 trunc-is (fin s m e) h = refl
 
-pub part-is : (w : Float) → T (finite w) → wholePart w ≡ min (num w / den w) (2 ^ 52)
-part-is nan h = absurd h
-part-is (inf s) h = absurd h
-part-is (fin s m e) h = refl
+pub whole-part-is : (w : Float) → T (finite w) → wholePart w ≡ min (num w / den w) (2 ^ 52)
+whole-part-is nan h = absurd h
+whole-part-is (inf s) h = absurd h
+whole-part-is (fin s m e) h = refl
 
 pub most-le : (s : Bool) → most s ≤ 1075
 most-le true = lit≤ tt
 most-le false = lit≤ tt
 
-part : (s : Bool) (w : Float) → Known s w → wholePart w ≡ num w / den w
-part s w k = part-is w (k .is-finite) ∙ min-eq-left (le-trans (k .size) (le-trans (most-le s) (lit≤ tt)))
+whole-part-exact : (s : Bool) (w : Float) → Bounded s w → wholePart w ≡ num w / den w
+whole-part-exact s w k = whole-part-is w (k .is-finite) ∙ min-eq-left (le-trans (k .size) (le-trans (most-le s) (lit≤ tt)))
 
-pub part-le : (s : Bool) (w : Float) (m : ℕ) → Known s w → m ≡ wholePart w → m ≤ most s
-part-le s w m k e = le-trans (le-of-eq (e ∙ part s w k)) (k .size)
+pub whole-part-le : (s : Bool) (w : Float) (m : ℕ) → Bounded s w → m ≡ wholePart w → m ≤ most s
+whole-part-le s w m k e = le-trans (le-of-eq (e ∙ whole-part-exact s w k)) (k .size)
 
-abbrev pub place : Bool → ℕ → ℕ
-place s n = cond s (1075 - n) (1075 + n)
+abbrev pub biased-exponent : Bool → ℕ → ℕ
+biased-exponent s n = cond s (1075 - n) (1075 + n)
 
-pub place-lt : (s : Bool) (n : ℕ) → n ≤ most s → place s n < 2100
-place-lt true n h = omega arith
-place-lt false n h = omega arith
+-- the result for a k of the sign s and the size n
+abbrev pub scaled : Float → Bool → ℕ → Float
+scaled x s n = scaleB (reduced x (round binary64 s n 1)) (minus (biased-exponent s n) 1075)
+
+pub biased-exponent-lt : (s : Bool) (n : ℕ) → n ≤ most s → biased-exponent s n < 2100
+biased-exponent-lt true n h = omega arith
+biased-exponent-lt false n h = omega arith
 
 minus-up : (n : ℕ) → minus (1075 + n) 1075 ≡ pos n
 minus-up n =
@@ -197,21 +201,21 @@ signed-zero : toSigned 63 (round binary64 true 0 1) ≡ pos 0
 unfolding toSigned round
 signed-zero = refl
 
-pub up-is : (n : ℕ) → ofInt binary64 (pos n) ≡ round binary64 false n 1
+pub ofInt-pos : (n : ℕ) → ofInt binary64 (pos n) ≡ round binary64 false n 1
 unfolding ofInt
-up-is n = refl
+ofInt-pos n = refl
 
-down-is : (n : ℕ) → ofInt binary64 (negsuc n) ≡ round binary64 true (suc n) 1
+ofInt-negsuc : (n : ℕ) → ofInt binary64 (negsuc n) ≡ round binary64 true (suc n) 1
 unfolding ofInt
-down-is n = refl
+ofInt-negsuc n = refl
 
-whole-number : (s : Bool) (n : ℕ) → n ≤ 1075 → toSigned 63 (round binary64 s n 1) ≡ minus (place s n) 1075
-whole-number false n h = ap (toSigned 63) (sym (up-is n)) ∙ positive-back binary64 63 n (in-float n h .0) (in-float n h .1) .1 ∙ sym (minus-up n)
+whole-number : (s : Bool) (n : ℕ) → n ≤ 1075 → toSigned 63 (round binary64 s n 1) ≡ minus (biased-exponent s n) 1075
+whole-number false n h = ap (toSigned 63) (sym (ofInt-pos n)) ∙ positive-back binary64 63 n (in-float n h .0) (in-float n h .1) .1 ∙ sym (minus-up n)
 whole-number true zero h = signed-zero
 whole-number true (suc n) h =
-    ap (toSigned 63) (sym (down-is n)) ∙ negative-back binary64 63 n (in-float-below n h .0) (in-float-below n h .1) .1 ∙ sym (minus-down n h)
+    ap (toSigned 63) (sym (ofInt-negsuc n)) ∙ negative-back binary64 63 n (in-float-below n h .0) (in-float-below n h .1) .1 ∙ sym (minus-down n h)
 
--- ---- the four ways out
+-- ---- `exp` of NaN, above and below the thresholds, and between them
 exp-nan : exp nan ≡ nan
 unfolding exp isNan
 exp-nan = refl
@@ -234,23 +238,23 @@ module _ (x : Float) (n : isNan x ≡ false) where
     exp-between l = rw (n, h, l) refl
 
     pub exp-is : (l : lt x uThreshold ≡ false) (s : Bool) (w : Float) (m : ℕ) → s ≡ isSignMinus x → w ≡ halfAway s x → m ≡ wholePart w
-        → scaleB (reduced x (round binary64 s m 1)) (minus (place s m) 1075) ≡ exp x
+        → scaled x s m ≡ exp x
     exp-is l s w m e v p =
-        let K : Known s w = known x n h l s w e v in
+        let K : Bounded s w = bounded x n h l s w e v in
         let k = trunc (halfAway (isSignMinus x) x) in
         let k-is : k ≡ round binary64 s m 1 =
         ap (λ (t : Bool). trunc (halfAway t x)) (sym e)
         ∙ ap trunc (sym v)
         ∙ trunc-is w (K .is-finite)
         ∙ ap (λ (t : Bool). round binary64 t (num w / den w) 1) (K .sign)
-        ∙ ap (λ (z : ℕ). round binary64 s z 1) (sym (p ∙ part s w K)) in
-        ap (scaleB (reduced x (round binary64 s m 1))) (sym (whole-number s m (le-trans (part-le s w m K p) (most-le s))))
+        ∙ ap (λ (z : ℕ). round binary64 s z 1) (sym (p ∙ whole-part-exact s w K)) in
+        ap (scaleB (reduced x (round binary64 s m 1))) (sym (whole-number s m (le-trans (whole-part-le s w m K p) (most-le s))))
         ∙ ap (λ (z : Float). scaleB (reduced x z) (toSigned 63 z)) (sym k-is)
         ∙ sym (exp-between l)
 
     -- with y and the biased exponent as the code computes them
     pub exp-scaled : (l : lt x uThreshold ≡ false) (s : Bool) (w : Float) (m : ℕ) → s ≡ isSignMinus x → w ≡ halfAway s x → m ≡ wholePart w
-        → (y : Float) (e : ℕ) → y ≡ reduced x (round binary64 s m 1) → e ≡ place s m → scaleB y (minus e 1075) ≡ exp x
+        → (y : Float) (e : ℕ) → y ≡ reduced x (round binary64 s m 1) → e ≡ biased-exponent s m → scaleB y (minus e 1075) ≡ exp x
     exp-scaled l s w m d v p y e Y E =
         ap (λ (z : Float). scaleB z (minus e 1075)) Y
         ∙ ap (λ (i : ℕ). scaleB (reduced x (round binary64 s m 1)) (minus i 1075)) E

@@ -10,8 +10,8 @@ use lib.Ieee.{Float, nan, inf, fin, binary64, up, down, round, sum, add, sub, mu
 use lib.Ieee.Fits.{up-pos, down-pos, neg-fits, div-fits}
 use lib.Ieee.Back.{whole-unique}
 use lib.Ieee.Scale.{finite}
-use Rattle.arithmetic.specs.Operations.{_⊕_, _⊖_, _⊗_, _⊘_, bits, one, two}
-use Rattle.arithmetic.specs.Exp.{ln2Hi, ln2Lo, reduced}
+use Rattle.arithmetic.specs.Operations.{_⊕_, _⊖_, _⊗_, _⊘_, one, two}
+use Rattle.arithmetic.specs.Exp.{ln2Hi, ln2Lo, P1, P2, P3, P4, P5, reduced}
 use Rattle.arithmetic.specs.Laws.Representable.{round-self}
 use Rattle.arithmetic.specs.Laws.Bounds.{round-to-zero}
 use Rattle.arithmetic.specs.Laws.Sums.{add-is, sum-swap}
@@ -93,12 +93,7 @@ k-low false = refl
 quotient : Float → Float
 quotient r =
     let q = r ⊗ r in
-    let p1 = bits 0x3FC5_5555_5555_553E in
-    let p2 = bits 0xBF66_C16C_16BE_BD93 in
-    let p3 = bits 0x3F11_566A_AF25_DE2C in
-    let p4 = bits 0xBEBB_BD41_C5D2_6BF1 in
-    let p5 = bits 0x3E66_3769_72BE_A4D0 in
-    let c = r ⊖ q ⊗ (p1 ⊕ q ⊗ (p2 ⊕ q ⊗ (p3 ⊕ q ⊗ (p4 ⊕ q ⊗ p5)))) in
+    let c = r ⊖ q ⊗ (P1 ⊕ q ⊗ (P2 ⊕ q ⊗ (P3 ⊕ q ⊗ (P4 ⊕ q ⊗ P5)))) in
     (r ⊗ c) ⊘ (two ⊖ c)
 
 quotient-fits : (r : Float) → T (fits binary64 (quotient r))

@@ -8,6 +8,7 @@ use native.Mathlib.Omega.{arith}
 use borrow.Author.Tests.{lt-ltb, le-ltb, le-leb, lt-leb, ltb-false}
 use lib.IntN.{pos}
 use lib.Dec.{T, eqb, lt→ltb}
+use denote.Floats.{passes}
 use lib.Ieee.{Float, nan, inf, fin, binary64, up, down, minus, round, sum, add, sub, mul, neg, ofInt, isNan, lt, eq, le, ofBits}
 use lib.Ieee.Fits.{down-pos}
 use lib.Ieee.Back.{round-whole}
@@ -67,20 +68,20 @@ unfolding ln
 ln-below x e l = zero-by-zero ∙ rw (e, l, or-true (isNan x))
 
 -- not zero, not below it, and below the infinity
-pub above : (x : Float) → eq x plusZero ≡ false → lt x plusZero ≡ false → lt x (bits 0x7ff0000000000000) ≡ true → T (positive x)
+pub is-positive : (x : Float) → eq x plusZero ≡ false → lt x plusZero ≡ false → lt x (bits 0x7ff0000000000000) ≡ true → T (positive x)
 unfolding ofBits eq lt
-above nan e l h = absurd (false≢true h)
-above (inf true) e l h = absurd (true≢false l)
-above (inf false) e l h = absurd (false≢true h)
-above (fin true m e) z l h = absurd (true≢false (sym (equal (m * up e * 1) (0 * down e) (ltb-false 0 (m * up e * 1 + 0 * down e) l)) ∙ z))
+is-positive nan e l h = absurd (false≢true h)
+is-positive (inf true) e l h = absurd (true≢false l)
+is-positive (inf false) e l h = absurd (false≢true h)
+is-positive (fin true m e) z l h = absurd (true≢false (sym (equal (m * up e * 1) (0 * down e) (ltb-false 0 (m * up e * 1 + 0 * down e) l)) ∙ z))
   where
     equal : (a b : ℕ) → a + b ≤ 0 → (eqb a b && (false || eqb a 0)) ≡ true
     equal a b h =
         let A : a ≡ 0 = omega arith in
         let B : b ≡ 0 = omega arith in
         rw (A, B)
-above (fin false zero e) z l h = absurd (true≢false (sym (rw (zero-mul (up e), zero-mul (down e))) ∙ z))
-above (fin false (suc m) e) z l h = lt→ltb 0 (suc m) (zero-lt-suc m)
+is-positive (fin false zero e) z l h = absurd (true≢false (sym (rw (zero-mul (up e), zero-mul (down e))) ∙ z))
+is-positive (fin false (suc m) e) z l h = lt→ltb 0 (suc m) (zero-lt-suc m)
 
 pub ln-parts : (x m k r : Float) → eq x plusZero ≡ false → lt x plusZero ≡ false → T (positive x) → (m ≡ significand x) × (k ≡ exponent x)
     → r ≡ series (m ⊖ one) k (k ⊗ L) → r ≡ ln x
@@ -94,22 +95,23 @@ ln-itself (inf true) e l h = absurd (true≢false h)
 ln-itself (inf false) e l h = refl
 ln-itself (fin s m e) z l h = absurd (true≢false h)
 
--- ---- `ln1p`, by its tests: -0.25 to 1.5, and 0.40625
-abbrev most : Float
-most = bits 0x3ff8000000000000
+-- ---- `ln1p`, by its tests: from -0.25 to 1.5, and below 0.40625, where the series is taken at u itself
+abbrev upperLimit : Float
+upperLimit = bits 0x3ff8000000000000
 
-abbrev cut : Float
-cut = bits 0x3fda000000000000
+abbrev directLimit : Float
+directLimit = bits 0x3fda000000000000
 
 zero-product : plusZero ≡ plusZero ⊗ L ⊕ plusZero
 unfolding ofBits mul add
 zero-product = refl
 
-pub ln1p-low : (u : Float) → fromLeast u ≡ true → toMost u ≡ true → lt u cut ≡ true → series u plusZero plusZero ≡ ln1p u
+pub ln1p-low : (u : Float) → fromLeast u ≡ true → toMost u ≡ true → lt u directLimit ≡ true → series u plusZero plusZero ≡ ln1p u
 unfolding ln1p
 ln1p-low u a b c = ap (series u plusZero) zero-product ∙ rw (a, b, c)
 
-pub ln1p-high : (u m k r : Float) → fromLeast u ≡ true → toMost u ≡ true → lt u cut ≡ false → (m ≡ significand (one ⊕ u)) × (k ≡ exponent (one ⊕ u))
+pub ln1p-high : (u m k r : Float) → fromLeast u ≡ true → toMost u ≡ true → lt u directLimit ≡ false
+    → (m ≡ significand (one ⊕ u)) × (k ≡ exponent (one ⊕ u))
     → r ≡ series (m ⊖ one) k (k ⊗ L ⊕ (u ⊖ (one ⊕ u ⊖ one)) ⊘ (one ⊕ u)) → r ≡ ln1p u
 unfolding ln1p
 ln1p-high u m k r a b l e h = h ∙ rw (e .0, e .1, a, b, l)
@@ -123,7 +125,7 @@ unfolding ln1p
 ln1p-under u a = zero-by-zero ∙ rw a
 
 -- from 0.40625, which is 13 / 2 ^ 5, to 1.5, which is 3 / 2, u is above zero, and 1 + u lies from 1 to 5 / 2
-in-range : (u : Float) → toMost u ≡ true → lt u cut ≡ false → T (positive u)
+in-range : (u : Float) → toMost u ≡ true → lt u directLimit ≡ false → T (positive u)
 unfolding ofBits lt le
 in-range nan b l = absurd (false≢true b)
 in-range (inf true) b l = absurd (true≢false l)
@@ -139,13 +141,13 @@ sum-is (inf s) p = absurd p
 sum-is (fin true m e) p = absurd p
 sum-is (fin false m e) p = rw (one-mul (down e), mul-one (m * up e))
 
-pub sum-positive : (u : Float) → toMost u ≡ true → lt u cut ≡ false → T (positive (one ⊕ u))
+pub sum-positive : (u : Float) → toMost u ≡ true → lt u directLimit ≡ false → T (positive (one ⊕ u))
 unfolding ofBits round
 sum-positive u b l =
     let p = in-range u b l in
     let n = num u in
     let d = den u in
-    let h : n * 2 ≤ 3 * d = le→cross u most p tt (subst T (sym b) tt) in
+    let h : n * 2 ≤ 3 * d = le→cross u upperLimit p tt (passes _ b) in
     subst (λ (y : Float). T (positive y)) (sym (sum-is u p))
     (between (round binary64 false 1 1) (round binary64 false (d + n) d) (round binary64 false 5 2) tt tt
     (round-mono binary64 1 1 (d + n) d (zero-lt-suc 0) (den-pos u) (omega arith))

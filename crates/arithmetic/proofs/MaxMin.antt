@@ -1,5 +1,5 @@
 -- What `max` and `min` give on each path: a NaN is dropped, and of two numbers `takes_first` chooses. Assumes nothing.
-use mathlib.Core.Path.{_≡_, sym, _∙_}
+use mathlib.Core.Path.{_≡_}
 use mathlib.Core.Bool.{Bool, true, false, cond}
 use lib.Ieee.{Float, isNan, ne}
 use Rattle.arithmetic.specs.Basic.{takesFirst}
@@ -20,9 +20,5 @@ module _ (x y f g : Float) where
     unfolding isNan
     second-nan h = rw (is-no-nan x X, is-nan y h)
 
-    module _ (Y : ne y y ≡ false) (t : Bool) (e : t ≡ takesFirst x y) where
-      pub first-taken : t ≡ true → f ≡ chosen
-      first-taken h = rw (is-no-nan x X, is-no-nan y Y, sym e ∙ h)
-
-      pub second-taken : t ≡ false → g ≡ chosen
-      second-taken h = rw (is-no-nan x X, is-no-nan y Y, sym e ∙ h)
+    pub by-first : ne y y ≡ false → (t : Bool) → t ≡ takesFirst x y → cond t f g ≡ chosen
+    by-first Y t e = rw (is-no-nan x X, is-no-nan y Y, e)

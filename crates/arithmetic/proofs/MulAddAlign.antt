@@ -132,7 +132,7 @@ shift-lt : (n j d k : ℕ) → n < 2 ^ j → d ≤ k → n * 2 ^ d < 2 ^ (j + k)
 shift-lt n j d k h l = lt-of-lt-of-le (shl-lt j d h) (pow-mono {j = j + k} (omega arith))
 
 -- ---- the four ways to one scale
-module _ (p : Pair) (ep m em : ℕ) (o : Operands (val p) ep m em) where
+module _ (p : Pair) {ep m em : ℕ} (o : Operands (val p) ep m em) where
   -- within a pair: the product shifted by 20 at most, and the addend by 64
   pub product-fits : (d : ℕ) → d ≤ 20 → val p * 2 ^ d < 2 ^ 128
   product-fits d h = lt-of-lt-of-le (shift-lt (val p) 106 d 20 (o .product-small) h) (lit≤ tt)

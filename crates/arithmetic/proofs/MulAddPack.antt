@@ -105,28 +105,31 @@ round-guarded-tie m h = let e : m % 4 ≡ 2 = sym (and-mask m 2) ∙ h in rw (e,
 pub round-guarded-over : (m : ℕ) → (bitAnd m 3 ≡ 2 → ⊥) → 2 ≤ bitAnd m 3 → m / 4 + 1 ≡ closest m 4
 round-guarded-over m n h = let e = and-mask m 2 in rw (cmp-gt (m % 4 * 2) 4 (omega arith)) (add-one (m / 4))
 
--- ---- the bits under the sign, as `pack` adds them up
-module _ (m k q : ℕ) (M : m < 2 ^ 55) (K : k < keptExponentBound) (lead : 0 < k → 2 ^ 54 ≤ m) (e : q ≡ closest m 4) where
-  abbrev magnitude : ℕ
-  magnitude = k * 2 ^ 52 % 2 ^ 64 + q
+-- ---- the bits under the sign, as `pack` adds them up from k and q, for a q that is m / 4 rounded
+abbrev magnitude : ℕ → ℕ → ℕ
+magnitude k q = k * 2 ^ 52 % 2 ^ 64 + q
 
-  magnitude-is : magnitude ≡ k * 2 ^ 52 + closest m 4
-  magnitude-is = ap (λ (x : ℕ). x + q) (mod-eq-of-lt (shifted k K)) ∙ ap (λ (x : ℕ). k * 2 ^ 52 + x) e
-    where
-      shifted : (k : ℕ) → k < 3200 → k * 4503599627370496 < 18446744073709551616
-      shifted k h = omega arith
+pub record Packed (m k q : ℕ) : Type 0 where
+  pub fits : magnitude k q < 2 ^ 64
+  pub finite : (s : Bool) → magnitude k q < 2047 * 2 ^ 52 → ofBits binary64 (cond s (2 ^ 63) 0 + magnitude k q) ≡ units binary64 s (closest m 4) k
+  pub infinite : (s : Bool) → 2047 * 2 ^ 52 ≤ magnitude k q → ofBits binary64 (cond s (2 ^ 63) 0 + 2047 * 2 ^ 52) ≡ units binary64 s (closest m 4) k
 
-  pub magnitude-fits : magnitude < 2 ^ 64
-  magnitude-fits = room k (closest m 4) magnitude K (round-guarded-most m M) magnitude-is
-    where
-      room : (k q x : ℕ) → k < 3200 → q ≤ 9007199254740992 → x ≡ k * 4503599627370496 + q → x < 18446744073709551616
-      room k q x a b d = omega arith
+pub packed : (m k q : ℕ) → m < 2 ^ 55 → k < keptExponentBound → (0 < k → 2 ^ 54 ≤ m) → q ≡ closest m 4 → Packed m k q
+packed m k q M K lead e =
+    let n = closest m 4 in
+    let is : magnitude k q ≡ k * 2 ^ 52 + n = ap (λ (x : ℕ). x + q) (mod-eq-of-lt (shifted k K)) ∙ ap (λ (x : ℕ). k * 2 ^ 52 + x) e in
+    let most = round-guarded-most m M in
+    let least : 0 < k → 2 ^ 52 ≤ n = λ p. round-guarded-least m (lead p) in
+    record {
+      fits = room k n (magnitude k q) K most is;
+      finite = λ s h.
+          ap (λ (x : ℕ). ofBits binary64 (cond s (2 ^ 63) 0 + x)) is
+          ∙ finite-pattern n k most least s (subst (λ (x : ℕ). x < 2047 * 2 ^ 52) is h);
+      infinite = λ s h. infinite-pattern n k most least s (subst (λ (x : ℕ). 2047 * 2 ^ 52 ≤ x) is h);
+    }
+  where
+    shifted : (k : ℕ) → k < 3200 → k * 4503599627370496 < 18446744073709551616
+    shifted k h = omega arith
 
-  pub pack-finite : (s : Bool) → magnitude < 2047 * 2 ^ 52 → ofBits binary64 (cond s (2 ^ 63) 0 + magnitude) ≡ units binary64 s (closest m 4) k
-  pack-finite s h =
-      ap (λ (x : ℕ). ofBits binary64 (cond s (2 ^ 63) 0 + x)) magnitude-is
-      ∙ finite-pattern (closest m 4) k (round-guarded-most m M) (λ p. round-guarded-least m (lead p)) s (subst (λ (x : ℕ). x < 2047 * 2 ^ 52) magnitude-is h)
-
-  pub pack-infinite : (s : Bool) → 2047 * 2 ^ 52 ≤ magnitude → ofBits binary64 (cond s (2 ^ 63) 0 + 2047 * 2 ^ 52) ≡ units binary64 s (closest m 4) k
-  pack-infinite s h =
-      infinite-pattern (closest m 4) k (round-guarded-most m M) (λ p. round-guarded-least m (lead p)) s (subst (λ (x : ℕ). 2047 * 2 ^ 52 ≤ x) magnitude-is h)
+    room : (k q x : ℕ) → k < 3200 → q ≤ 9007199254740992 → x ≡ k * 4503599627370496 + q → x < 18446744073709551616
+    room k q x a b d = omega arith

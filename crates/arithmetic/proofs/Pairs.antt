@@ -37,7 +37,7 @@ pub val-size : (v : Pair) → v .hi < 2 ^ 64 → v .lo < 2 ^ 64 → size (val v)
 val-size v H L = size-le (val v) 128 (val-lt v H L)
 
 -- ---- order
-pub upper-less : (K ah al bh bl : ℕ) → al < K → ah < bh → ah * K + al < bh * K + bl
+upper-less : (K ah al bh bl : ℕ) → al < K → ah < bh → ah * K + al < bh * K + bl
 upper-less K ah al bh bl A h = let m : ah + 1 ≤ bh = omega arith in let q = mul-le-mul-right K m in let n = next ah K in omega arith
 
 -- ---- sums and differences on one half
@@ -67,7 +67,7 @@ module _ (K ah al bh bl : ℕ) (A : al < K) (B : bl < K) (h : ah * K + al + (bh 
   upper : (n : ℕ) → n * K ≤ ah * K + al + (bh * K + bl) → n < K
   upper n l = lt-of-mul-lt-mul-right K (lt-of-le-of-lt l h)
 
-  pub add-carry : (lo hi top : ℕ) → lo ≡ (al + bl) % K → hi ≡ (ah + bh) % K → top ≡ (hi + 1) % K → lo < al
+  add-carry : (lo hi top : ℕ) → lo ≡ (al + bl) % K → hi ≡ (ah + bh) % K → top ≡ (hi + 1) % K → lo < al
       → top * K + lo ≡ ah * K + al + (bh * K + bl)
   add-carry lo hi top L H U less =
       let c : bl + al ≡ lo + K = back-borrow K bl lo al B A (ap (λ (x : ℕ). x % K) (omega arith) ∙ sym L) less in
@@ -76,7 +76,7 @@ module _ (K ah al bh bl : ℕ) (A : al < K) (B : bl < K) (h : ah * K + al + (bh 
       let z : hi ≡ ah + bh = H ∙ mod-eq-of-lt (upper (ah + bh) (omega arith)) in
       ap (λ (x : ℕ). x * K + lo) (U ∙ ap (λ (x : ℕ). (x + 1) % K) z ∙ mod-eq-of-lt (upper (ah + bh + 1) (omega arith))) ∙ omega arith
 
-  pub add-no-carry : (lo hi : ℕ) → lo ≡ (al + bl) % K → hi ≡ (ah + bh) % K → al ≤ lo → hi * K + lo ≡ ah * K + al + (bh * K + bl)
+  add-no-carry : (lo hi : ℕ) → lo ≡ (al + bl) % K → hi ≡ (ah + bh) % K → al ≤ lo → hi * K + lo ≡ ah * K + al + (bh * K + bl)
   add-no-carry lo hi L H more =
       let c : bl + al ≡ lo = back-no-borrow K bl lo al B A (ap (λ (x : ℕ). x % K) (omega arith) ∙ sym L) more in
       let p = add-mul ah bh K in
@@ -98,14 +98,14 @@ module _ (K ah al bh bl : ℕ) (AH : ah < K) (A : al < K) (BH : bh < K) (B : bl 
       go (inl p) = p
       go (inr p) = let q = mul-le-mul-right K p in omega arith
 
-  pub sub-no-borrow : (lo hi : ℕ) → lo < K → hi < K → (lo + bl) % K ≡ al → (hi + bh) % K ≡ ah → bl ≤ al → hi * K + lo ≡ ah * K + al - (bh * K + bl)
+  sub-no-borrow : (lo hi : ℕ) → lo < K → hi < K → (lo + bl) % K ≡ al → (hi + bh) % K ≡ ah → bl ≤ al → hi * K + lo ≡ ah * K + al - (bh * K + bl)
   sub-no-borrow lo hi L H p q l =
       let x = back-no-borrow K lo al bl L B p l in
       let y = add-mul hi bh K in
       let z = ap (λ (x : ℕ). x * K) (back-no-borrow K hi ah bh H BH q (sub-upper l)) in
       omega arith
 
-  pub sub-borrow : (lo hi top : ℕ) → lo < K → hi < K → top < K → (lo + bl) % K ≡ al → (hi + bh) % K ≡ ah → (top + 1) % K ≡ hi → al < bl
+  sub-borrow : (lo hi top : ℕ) → lo < K → hi < K → top < K → (lo + bl) % K ≡ al → (hi + bh) % K ≡ ah → (top + 1) % K ≡ hi → al < bl
       → top * K + lo ≡ ah * K + al - (bh * K + bl)
   sub-borrow lo hi top L H U p q r l =
       let g = sub-upper-borrow l in
@@ -118,9 +118,32 @@ module _ (K ah al bh bl : ℕ) (AH : ah < K) (A : al < K) (BH : bh < K) (B : bl 
       let w = ap (λ (x : ℕ). x * K) f in
       omega arith
 
+-- of pairs, with K = 2 ^ 64: lo and hi are the wrapped sums or differences of the halves
+module _ (a b : Pair) (A : a .lo < 2 ^ 64) (B : b .lo < 2 ^ 64) {lo hi : ℕ} where
+  module _ (h : val a + val b < 2 ^ 128) (L : lo ≡ (a .lo + b .lo) % 2 ^ 64) (H : hi ≡ (a .hi + b .hi) % 2 ^ 64) where
+    pub pair-carry : {top : ℕ} → top ≡ (hi + 1) % 2 ^ 64 → lo < a .lo → top * 2 ^ 64 + lo ≡ val a + val b
+    pair-carry {top} U less = add-carry (2 ^ 64) (a .hi) (a .lo) (b .hi) (b .lo) A B h lo hi top L H U less
+
+    pub pair-no-carry : a .lo ≤ lo → hi * 2 ^ 64 + lo ≡ val a + val b
+    pair-no-carry more = add-no-carry (2 ^ 64) (a .hi) (a .lo) (b .hi) (b .lo) A B h lo hi L H more
+
+  module _ (AH : a .hi < 2 ^ 64) (BH : b .hi < 2 ^ 64) (h : val b ≤ val a) (L : lo < 2 ^ 64) (H : hi < 2 ^ 64)
+      (l : (lo + b .lo) % 2 ^ 64 ≡ a .lo) (g : (hi + b .hi) % 2 ^ 64 ≡ a .hi) where
+    pub pair-borrow : {top : ℕ} → top < 2 ^ 64 → (top + 1) % 2 ^ 64 ≡ hi → a .lo < b .lo → top * 2 ^ 64 + lo ≡ val a - val b
+    pair-borrow {top} U u less = sub-borrow (2 ^ 64) (a .hi) (a .lo) (b .hi) (b .lo) AH A BH B h lo hi top L H U l g u less
+
+    pub pair-no-borrow : b .lo ≤ a .lo → hi * 2 ^ 64 + lo ≡ val a - val b
+    pair-no-borrow more = sub-no-borrow (2 ^ 64) (a .hi) (a .lo) (b .hi) (b .lo) AH A BH B h lo hi L H l g more
+
 -- with equal upper halves the lower ones decide
-pub lower-less : (K h g a b : ℕ) → h ≡ g → ltb a b ≡ ltb (h * K + a) (g * K + b)
+lower-less : (K h g a b : ℕ) → h ≡ g → ltb a b ≡ ltb (h * K + a) (g * K + b)
 lower-less K h g a b e = let z = ap (λ (x : ℕ). x * K) e in same-ltb a b (h * K + a) (g * K + b) (λ l. omega arith) (λ l. omega arith)
+
+pub pair-less : (a b : Pair) → a .lo < 2 ^ 64 → a .hi < b .hi → val a < val b
+pair-less a b A h = upper-less (2 ^ 64) (a .hi) (a .lo) (b .hi) (b .lo) A h
+
+pub pair-alike : (a b : Pair) → a .hi ≡ b .hi → ltb (a .lo) (b .lo) ≡ ltb (val a) (val b)
+pair-alike a b e = lower-less (2 ^ 64) (a .hi) (b .hi) (a .lo) (b .lo) e
 
 -- ---- products
 -- x * E cut to a multiple of K = E * F, with what was cut

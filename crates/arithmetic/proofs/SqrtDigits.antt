@@ -5,7 +5,7 @@ use Prim.Native.Nat.{ℕ, zero, suc, _+_, _-_, _*_, _/_, _%_, _^_, _≤_, _<_}
 use native.Mathlib.Nat.{lt-of-lt-of-le, mul-le-mul, mul-assoc}
 use native.Mathlib.Omega.{arith}
 use lib.Pow.{pow-add, pow-mono}
-pub use Rattle.arithmetic.specs.Internal.Sqrt.{Closest}
+use Rattle.arithmetic.specs.Internal.Sqrt.{Radicand, Closest}
 use Rattle.arithmetic.specs.Laws.WholeRoots.{Nearest, nearest-root}
 use Rattle.arithmetic.specs.Laws.SqrtNearest.{near-low, near-high}
 
@@ -112,8 +112,8 @@ tested w q h k lo hi =
         subst (λ (z : ℕ). (z * z < w * 4503599627370496 + q) × (w * 4503599627370496 ≤ z * z + q)) (sym b)
         (ends ((s * 67108864 + d) * (s * 67108864 + d)) (d * d) (v * 67108864 + d) (sum s d e v a b c) l u)
 
-pub closest-of : (w r : ℕ) → 2 ^ 52 ≤ w → w + 1 < 2 ^ 54 → Nearest (w * 4503599627370496) r → Closest w r
-closest-of w r lo hi h = (
+pub closest-of : (w r : ℕ) → Radicand w → Nearest (w * 4503599627370496) r → Closest w r
+closest-of w r (lo, hi) h = (
   sym (nearest-root (w * 4503599627370496) r (omega arith) (omega arith) h),
   near-low (w * 4503599627370496) r (omega arith) (h .1),
   near-high (w * 4503599627370496) r (omega arith) (h .0),

@@ -30,7 +30,7 @@ use Rattle.arithmetic.specs.Sqrt.{sqrtUnits, sqrt}
 use Rattle.arithmetic.specs.Laws.Patterns.{signed-is, at-zero, above-zero, subnormal, normal, built, no-nan, bitsAt, bits-of}
 use Rattle.arithmetic.specs.Laws.WholeRoots.{units-at}
 use Rattle.arithmetic.specs.Laws.SqrtValues.{sqrt-of, sqrt-below}
-use Rattle.arithmetic.proofs.SqrtDigits.{Closest}
+use Rattle.arithmetic.specs.Internal.Sqrt.{Radicand, Closest}
 
 -- ---- NaN, the infinity, and the two zeros
 at-nan : sqrt nan ≡ nan
@@ -101,10 +101,10 @@ of-below b lo hi =
     ∙ fields-below (r / 4503599627370496) (r % 4503599627370496) (omega arith))
 
 -- ---- the pattern that `of_normal` puts together: w * 2 ^ 52 is the 53 digits times 2 ^ i, for the i that makes the exponent even
-pub pattern-at : (b k w i r : ℕ) → 4503599627370496 ≤ b → b < 9218868437227405312 → 2 ^ 52 ≤ w → w + 1 < 2 ^ 54 → k < 2046
+pub pattern-at : (b k w i r : ℕ) → 4503599627370496 ≤ b → b < 9218868437227405312 → Radicand w → k < 2046
     → w * 2 ^ 52 ≡ (4503599627370496 + b % 4503599627370496) * 2 ^ i → i + 2 * k ≡ 1073 + b / 4503599627370496 → Closest w r
     → ofBits binary64 (k * 4503599627370496 + r) ≡ sqrt (ofBits binary64 b)
-pattern-at b k w i r low high lo hi K e g h =
+pattern-at b k w i r low high (lo, hi) K e g h =
     let m = 4503599627370496 + b % 4503599627370496 in
     let exponent = ap (λ (x : ℕ). 2 ^ i * x) (four k) ∙ pow-split i (2 * k) (1073 + b / 4503599627370496) g in
     built k r K (h .1) (h .2)

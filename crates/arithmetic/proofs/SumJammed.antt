@@ -16,18 +16,18 @@ use Rattle.arithmetic.specs.Laws.Numbers.{same-ltb, lt-or-le, pow-split,
 use Rattle.arithmetic.specs.Laws.Sums.{sum-swap}
 use Rattle.arithmetic.proofs.RoundDropped.{closest-coarse, size-div, dropped, round-at}
 
--- ---- one number
+-- ---- one number is rounded
 module _ (e q : ℕ) where
   abbrev G : ℕ
   G = 2 ^ (e + 1)
 
-  -- how many digits are dropped where the place is at most that of the smallest value's last digit
+  -- how many digits are dropped, where the place lies below the smallest value
   drop-low : (r : ℕ) → r < G → e ≤ 1072 → dropped (q * G + r) ≡ size (q / 2 ^ (1074 - (e + 1))) - 53
   drop-low r R h =
       ap (λ (x : ℕ). size ((q * G + r) / x) - 53) (sym (pow-split (e + 1) (1074 - (e + 1)) 1074 (omega arith)))
       ∙ ap (λ (x : ℕ). size x - 53) (sym (div-div-eq-div-mul (q * G + r) G (2 ^ (1074 - (e + 1)))) ∙ ap (λ (x : ℕ). x / 2 ^ (1074 - (e + 1))) (digits-div q R))
 
-  -- and in a number of more digits than the result keeps
+  -- and where the number reaches the place
   drop-long : (r : ℕ) → r < G → 0 < size q → dropped (q * G + r) ≡ size q + (e + 1) - 1074 - 53
   drop-long r R h =
       let z = sym (ap size (digits-div q R)) ∙ size-div (q * G + r) (e + 1) in
@@ -82,7 +82,7 @@ module _ (G M q r r' : ℕ) (R : r < G) (R' : r' < G) (same : min 1 r ≡ min 1 
       go (inr a) = a
 
 -- ---- sums and differences
--- `wide`: the place is low, or M so far above q that the sum and the difference have 54 digits above it
+-- `wide`: the place lies below the smallest value, or the sum and the difference have 54 digits above it
 module _ (e M q r r' : ℕ) (R : r < 2 ^ (e + 1)) (R' : r' < 2 ^ (e + 1)) (same : min 1 r ≡ min 1 r') (wide : (e ≤ 1072) ⊎ (q + 2 ^ 54 < M)) where
   abbrev g : ℕ
   g = 2 ^ (e + 1)
@@ -90,7 +90,7 @@ module _ (e M q r r' : ℕ) (R : r < 2 ^ (e + 1)) (R' : r' < 2 ^ (e + 1)) (same 
   abbrev rounded : Bool → ℕ → Float
   rounded s n = round binary64 s n (2 ^ 2148)
 
-  -- n * g + t and n * g + t', each in another form
+  -- x and x' are n * g + t and n * g + t'
   through : (s : Bool) (n t t' x x' : ℕ) → x ≡ n * g + t → x' ≡ n * g + t' → t < g → t' < g → min 1 t ≡ min 1 t'
       → (e ≤ 1072) ⊎ (2 ^ 54 ≤ n) → rounded s x ≡ rounded s x'
   through s n t t' x x' a a' b b' c h = ap (rounded s) a ∙ round-jam e n s t t' b b' c h ∙ sym (ap (rounded s) a')

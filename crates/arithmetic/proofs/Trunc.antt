@@ -28,7 +28,7 @@ use Rattle.arithmetic.specs.Laws.Patterns.{ofBits-is, read-more, bits-no
 use Rattle.arithmetic.specs.Laws.Times.{has-finite, rescale}
 use Rattle.arithmetic.specs.Laws.Compare.{finite-no-nan}
 use Rattle.arithmetic.specs.Laws.Signs.{is-nan, sign-bit}
-use Rattle.arithmetic.proofs.MulAddDecode.{at-zero, at-more}
+use Rattle.arithmetic.proofs.MulAddDecode.{value-subnormal, value-normal}
 
 -- ---- NaN
 trunc-nan : trunc nan ≡ nan
@@ -89,10 +89,10 @@ by-field nan F N n f e a b d = absurd N
 by-field (inf s) F N n f e a b d = a (sym e ∙ field-of-infinity s)
 by-field (fin s m g) F N n zero e a b d =
     let x = fin s m g in
-    b refl ∙ sym (whole-of x (negative x) (digits x * 2 ^ 0) (at-zero x F tt e))
+    b refl ∙ sym (whole-of x (negative x) (digits x * 2 ^ 0) (value-subnormal x F tt e))
 by-field (fin s m g) F N n (suc j) e a b d =
     let x = fin s m g in
-    d j refl ∙ sym (whole-of x (negative x) ((2 ^ 52 + digits x) * 2 ^ j) (at-more x F tt j e))
+    d j refl ∙ sym (whole-of x (negative x) ((2 ^ 52 + digits x) * 2 ^ j) (value-normal x F tt j e))
 
 module _ (x : Float) (F : T (fits binary64 x)) (N : T (not (isNan x))) where
   few : digits x < 2 ^ 52

@@ -6,7 +6,7 @@ use lib.Dec.{T, le→leb}
 use lib.IntN.{pos}
 use lib.Ieee.{binary64, inFloat, round, neg}
 use Rattle.arithmetic.specs.Laws.Identities.{round-neg}
-use Rattle.arithmetic.proofs.ExpGeneral.{up-is}
+use Rattle.arithmetic.proofs.ExpGeneral.{ofInt-pos}
 use Rattle.arithmetic.proofs.basic.signed_integer.Statement.{statement}
 use Rattle.arithmetic.proofs.basic.signed_integer.Tie as tie
 
@@ -23,12 +23,12 @@ int-to-float-result-2 c = held (c .before .before .args .n) (c .before .before .
 returns : tie.Need-returns
 returns c =
     let n = c .before .before .args .n in
-    ap neg (up-is n) ∙ sym (round-neg binary64 false n 1) ∙ ap (λ (s : Bool). round binary64 s n 1) (sym (c .before .if1 .taken))
+    ap neg (ofInt-pos n) ∙ sym (round-neg binary64 false n 1) ∙ ap (λ (s : Bool). round binary64 s n 1) (sym (c .before .if1 .taken))
 
 returns-2 : tie.Need-returns-2
 returns-2 c =
     let n = c .before .before .args .n in
-    up-is n ∙ ap (λ (s : Bool). round binary64 s n 1) (sym (c .before .if1 .left))
+    ofInt-pos n ∙ ap (λ (s : Bool). round binary64 s n 1) (sym (c .before .if1 .left))
 
 pub signed-integer-spec : {M : Type 1} → statement M
 signed-integer-spec = tie.close (tie.spec int-to-float-result int-to-float-result-2 returns returns-2)

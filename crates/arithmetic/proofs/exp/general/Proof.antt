@@ -13,7 +13,8 @@ use Rattle.arithmetic.specs.Laws.Numbers.{false-not}
 use Rattle.arithmetic.specs.Laws.Compare.{finite-no-nan, is-no-nan}
 use Rattle.arithmetic.specs.Laws.Patterns.{bits-no-nan}
 use Rattle.arithmetic.specs.Laws.Signs.{has-bits, sign-bit}
-use Rattle.arithmetic.proofs.ExpGeneral.{Known, known, most, most-le, part-le, place-lt, exp-of-nan, exp-over, exp-under, exp-scaled}
+use Rattle.arithmetic.proofs.ExpGeneral.{Bounded, bounded, most, most-le, whole-part-le, biased-exponent-lt, exp-of-nan, exp-over}
+use Rattle.arithmetic.proofs.ExpGeneral.{exp-under, exp-scaled}
 use Rattle.arithmetic.proofs.exp.general.Statement.{statement}
 use Rattle.arithmetic.proofs.exp.general.Tie as tie
 
@@ -23,7 +24,7 @@ held c = passes _ (c .good .0 .1)
 number : (c : tie.Else1) → isNan (c .before .args .x) ≡ false
 number c = is-no-nan (c .before .args .x) (c .if1 .left)
 
--- past the thresholds: the place where x is known to be a number, x itself, and the local `negative`
+-- between the thresholds: the place where x is found to be a number, x itself, and the local `negative`
 abbrev at-number : tie.Else3 → tie.Else1
 at-number c = c .before .before
 
@@ -36,17 +37,17 @@ negative c = leb (2 ^ 63) (toBits binary64 (arg c))
 sign : (c : tie.Else3) → negative c ≡ isSignMinus (arg c)
 sign c = sym (sign-bit (arg c) (held (at-number c .before)) (number (at-number c)))
 
--- what is known of w = x / ln 2 and a half, and of its whole part n
-facts : (c : tie.After-half-away) → Known (negative (c .before)) (c .half-away .result)
+-- w, which is x / ln 2 and a half, and its whole part n are bounded
+facts : (c : tie.After-half-away) → Bounded (negative (c .before)) (c .half-away .result)
 facts c =
     let between = c .before in
-    known (arg between) (number (at-number between)) (between .before .if2 .left) (between .if3 .left)
+    bounded (arg between) (number (at-number between)) (between .before .if2 .left) (between .if3 .left)
     (negative between) (c .half-away .result) (sign between) (c .half-away .ensures)
 
 bound : (c : tie.After-whole-part) → c .whole-part .result ≤ most (negative (c .before .before))
 bound c =
     let at-half = c .before in
-    part-le (negative (at-half .before)) (at-half .half-away .result) (c .whole-part .result) (facts at-half) (c .whole-part .ensures)
+    whole-part-le (negative (at-half .before)) (at-half .half-away .result) (c .whole-part .result) (facts at-half) (c .whole-part .ensures)
 
 few : (c : tie.After-whole-part) → c .whole-part .result ≤ 1075
 few c = le-trans (bound c) (most-le (negative (c .before .before)))
@@ -79,7 +80,8 @@ scale-b-requires : tie.Need-scale-b-requires
 scale-b-requires c κs =
     let at-signed = c .before .before in
     let at-n = at-signed .before in
-    subst (λ (e : ℕ). e < 2100) (sym (c .biased-exponent .ensures)) (place-lt (negative (at-n .before .before)) (at-n .whole-part .result) (bound at-n))
+    let between = at-n .before .before in
+    subst (λ (e : ℕ). e < 2100) (sym (c .biased-exponent .ensures)) (biased-exponent-lt (negative between) (at-n .whole-part .result) (bound at-n))
 
 returns-4 : tie.Need-returns-4
 returns-4 c =

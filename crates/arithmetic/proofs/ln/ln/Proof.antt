@@ -1,7 +1,7 @@
 -- `arithmetic::ln::ln` meets its contract: a law of `LnPaths` for each path. Assumes nothing.
 use native.Mathlib.Omega.{arith}
 use Rattle.arithmetic.specs.Laws.Patterns.{bits-no-nan}
-use Rattle.arithmetic.proofs.LnPaths.{ln-zero, ln-below, above, ln-parts, ln-itself}
+use Rattle.arithmetic.proofs.LnPaths.{ln-zero, ln-below, is-positive, ln-parts, ln-itself}
 use Rattle.arithmetic.proofs.ln.ln.Statement.{statement}
 use Rattle.arithmetic.proofs.ln.ln.Tie as tie
 
@@ -15,7 +15,7 @@ decompose-requires : tie.Need-decompose-requires
 decompose-requires c κs =
     let not-below = c .before in
     let not-zero = not-below .before in
-    above (not-zero .before .args .x) (not-zero .if1 .left) (not-below .if2 .left) (c .if3 .taken)
+    is-positive (not-zero .before .args .x) (not-zero .if1 .left) (not-below .if2 .left) (c .if3 .taken)
 
 returns-3 : tie.Need-returns-3
 returns-3 c =
@@ -25,7 +25,7 @@ returns-3 c =
     let not-below = finite .before in
     let not-zero = not-below .before in
     let x = not-zero .before .args .x in
-    let is-above = above x (not-zero .if1 .left) (not-below .if2 .left) (finite .if3 .taken) in
+    let is-above = is-positive x (not-zero .if1 .left) (not-below .if2 .left) (finite .if3 .taken) in
     ln-parts x _ _ _ (not-zero .if1 .left) (not-below .if2 .left) is-above (at-decompose .decompose .ensures) (c .series .ensures)
 
 returns-4 : tie.Need-returns-4

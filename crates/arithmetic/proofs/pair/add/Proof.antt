@@ -2,7 +2,7 @@
 use Prim.Native.Nat.{_^_, _<_}
 use native.Mathlib.Omega.{arith}
 use borrow.Author.Needs.{needs}
-use Rattle.arithmetic.proofs.Pairs.{add-carry, add-no-carry}
+use Rattle.arithmetic.proofs.Pairs.{pair-carry, pair-no-carry}
 use Rattle.arithmetic.proofs.pair.add.Statement.{statement}
 use Rattle.arithmetic.proofs.pair.add.Tie as tie
 
@@ -18,10 +18,7 @@ returns c =
     let at-hi = at-carry .before .before in
     let at-lo = at-hi .before in
     let start = at-lo .before in
-    let a = start .args .a in
-    let b = start .args .b in
-    add-carry (2 ^ 64) (a .hi) (a .lo) (b .hi) (b .lo) (al start) (bl start) (start .pre)
-    (at-lo .wrapping-add-u64 .result) (at-hi .wrapping-add-u642 .result) (c .wrapping-add-u643 .result)
+    pair-carry (start .args .a) (start .args .b) (al start) (bl start) (start .pre)
     (at-lo .wrapping-add-u64 .ensures) (at-hi .wrapping-add-u642 .ensures) (c .wrapping-add-u643 .ensures) (at-carry .if1 .taken)
 
 returns-2 : tie.Need-returns-2
@@ -29,10 +26,7 @@ returns-2 c =
     let at-hi = c .before .before in
     let at-lo = at-hi .before in
     let start = at-lo .before in
-    let a = start .args .a in
-    let b = start .args .b in
-    add-no-carry (2 ^ 64) (a .hi) (a .lo) (b .hi) (b .lo) (al start) (bl start) (start .pre)
-    (at-lo .wrapping-add-u64 .result) (at-hi .wrapping-add-u642 .result)
+    pair-no-carry (start .args .a) (start .args .b) (al start) (bl start) (start .pre)
     (at-lo .wrapping-add-u64 .ensures) (at-hi .wrapping-add-u642 .ensures) (c .if1 .left)
 
 pub add-spec : {M : Type 1} → statement M

@@ -4,7 +4,7 @@ use Prim.Native.Nat.{_^_, _<_}
 use native.Mathlib.Nat.{le-of-lt, le-antisymm}
 use native.Mathlib.Omega.{arith}
 use borrow.Author.Tests.{lt-ltb, le-ltb}
-use Rattle.arithmetic.proofs.Pairs.{upper-less, lower-less}
+use Rattle.arithmetic.proofs.Pairs.{pair-less, pair-alike}
 use Rattle.arithmetic.proofs.pair.less.Statement.{statement}
 use Rattle.arithmetic.proofs.pair.less.Tie as tie
 
@@ -14,34 +14,27 @@ al c = omega arith
 bl : (c : tie.Start) → c .args .b .lo < 2 ^ 64
 bl c = omega arith
 
+-- the start, from the place where the upper halves are first compared
+abbrev start : tie.After-struct-known2 → tie.Start
+start c = c .before .before
+
 returns : tie.Need-returns
-returns c =
-    let at-test = c .before in
-    let start = at-test .before .before in
-    let a = start .args .a in
-    let b = start .args .b in
-    sym (lt-ltb _ _ (upper-less (2 ^ 64) (a .hi) (a .lo) (b .hi) (b .lo) (al start) (c .if1 .taken)))
+returns c = let s = start (c .before) in sym (lt-ltb _ _ (pair-less (s .args .a) (s .args .b) (al s) (c .if1 .taken)))
 
 returns-2 : tie.Need-returns-2
 returns-2 c =
-    let at-test-2 = c .before in
-    let not-below = at-test-2 .before .before in
-    let at-test = not-below .before in
-    let start = at-test .before .before in
-    let a = start .args .a in
-    let b = start .args .b in
-    sym (le-ltb _ _ (le-of-lt (upper-less (2 ^ 64) (b .hi) (b .lo) (a .hi) (a .lo) (bl start) (c .if2 .taken))))
+    let at-test = c .before in
+    let not-below = at-test .before .before in
+    let s = start (not-below .before) in
+    sym (le-ltb _ _ (le-of-lt (pair-less (s .args .b) (s .args .a) (bl s) (c .if2 .taken))))
 
 returns-3 : tie.Need-returns-3
 returns-3 c =
     let not-above = c .before .before in
-    let at-test-2 = not-above .before in
-    let not-below = at-test-2 .before .before in
-    let at-test = not-below .before in
-    let start = at-test .before .before in
-    let a = start .args .a in
-    let b = start .args .b in
-    lower-less (2 ^ 64) (a .hi) (b .hi) (a .lo) (b .lo) (le-antisymm (not-above .if2 .left) (not-below .if1 .left))
+    let at-test = not-above .before in
+    let not-below = at-test .before .before in
+    let s = start (not-below .before) in
+    pair-alike (s .args .a) (s .args .b) (le-antisymm (not-above .if2 .left) (not-below .if1 .left))
 
 pub less-spec : {M : Type 1} → statement M
 less-spec = tie.close (tie.spec returns returns-2 returns-3)

@@ -2,7 +2,7 @@
 use Prim.Native.Nat.{_^_, _<_}
 use native.Mathlib.Omega.{arith}
 use borrow.Author.Needs.{needs}
-use Rattle.arithmetic.proofs.Pairs.{sub-borrow, sub-no-borrow}
+use Rattle.arithmetic.proofs.Pairs.{pair-borrow, pair-no-borrow}
 use Rattle.arithmetic.proofs.pair.sub.Statement.{statement}
 use Rattle.arithmetic.proofs.pair.sub.Tie as tie
 
@@ -33,11 +33,8 @@ returns c =
     let at-hi = at-test .before .before in
     let at-lo = at-hi .before in
     let start = at-lo .before in
-    let a = start .args .a in
-    let b = start .args .b in
-    sub-borrow (2 ^ 64) (a .hi) (a .lo) (b .hi) (b .lo) (ah start) (al start) (bh start) (bl start) (start .pre)
-    (at-lo .wrapping-sub-u64 .result) (at-hi .wrapping-sub-u642 .result) (c .wrapping-sub-u643 .result) (lo at-lo) (hi at-hi) (top c)
-    (at-lo .wrapping-sub-u64 .ensures) (at-hi .wrapping-sub-u642 .ensures) (c .wrapping-sub-u643 .ensures) (c .before .if1 .taken)
+    pair-borrow (start .args .a) (start .args .b) (al start) (bl start) (ah start) (bh start) (start .pre) (lo at-lo) (hi at-hi)
+    (at-lo .wrapping-sub-u64 .ensures) (at-hi .wrapping-sub-u642 .ensures) (top c) (c .wrapping-sub-u643 .ensures) (c .before .if1 .taken)
 
 returns-2 : tie.Need-returns-2
 returns-2 c =
@@ -45,10 +42,7 @@ returns-2 c =
     let at-hi = at-test .before .before in
     let at-lo = at-hi .before in
     let start = at-lo .before in
-    let a = start .args .a in
-    let b = start .args .b in
-    sub-no-borrow (2 ^ 64) (a .hi) (a .lo) (b .hi) (b .lo) (ah start) (al start) (bh start) (bl start) (start .pre)
-    (at-lo .wrapping-sub-u64 .result) (at-hi .wrapping-sub-u642 .result) (lo at-lo) (hi at-hi)
+    pair-no-borrow (start .args .a) (start .args .b) (al start) (bl start) (ah start) (bh start) (start .pre) (lo at-lo) (hi at-hi)
     (at-lo .wrapping-sub-u64 .ensures) (at-hi .wrapping-sub-u642 .ensures) (c .if1 .left)
 
 pub sub-spec : {M : Type 1} → statement M

@@ -30,14 +30,13 @@ returns : tie.Need-returns Inv-loop μ-loop
 returns c =
     let at-loop = c .before .before in
     let start = at-loop .before in
-    closest-of (start .args .w) _ (start .pre .0) (start .pre .1) (nearest-above _ _ _ _ _ (at-loop .loop .inv .0) (omega arith) (c .if2 .taken))
+    closest-of (start .args .w) _ (start .pre) (nearest-above _ _ _ _ _ (at-loop .loop .inv .0) (omega arith) (c .if2 .taken))
 
 returns-2 : tie.Need-returns-2 Inv-loop μ-loop
 returns-2 c =
     let at-loop = c .before .before in
     let start = at-loop .before in
-    closest-of (start .args .w) _ (start .pre .0) (start .pre .1)
-    (nearest-itself _ _ _ _ _ (omega arith) (at-loop .loop .inv .0) (omega arith) (c .if2 .left))
+    closest-of (start .args .w) _ (start .pre) (nearest-itself _ _ _ _ _ (omega arith) (at-loop .loop .inv .0) (omega arith) (c .if2 .left))
 
 pub by-digits-spec : {M : Type 1} → statement M
 by-digits-spec =

@@ -25,7 +25,7 @@ returns-7 c = λ t.
     let start = at-if2 .before .before in
     let w = start .args .w in
     let q = start .args .q in
-    closest-of w q (start .pre .0) (start .pre .1) (tested w q (at-if2 .if2 .left) (at-if4 .if4 .left) (c .if6 .left) (leb→le _ _ t))
+    closest-of w q (start .pre) (tested w q (at-if2 .if2 .left) (at-if4 .if4 .left) (c .if6 .left) (leb→le _ _ t))
 
 pub is-closest-spec : {M : Type 1} → statement M
 is-closest-spec =

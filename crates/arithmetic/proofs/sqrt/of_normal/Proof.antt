@@ -1,7 +1,7 @@
 -- `arithmetic::sqrt::of_normal` meets its contract: the nearest root has the pattern of the rounded root, for an even and for an odd exponent. Assumes nothing.
 use mathlib.Core.Path.{_≡_, sym, ap, _∙_}
 use mathlib.Core.Logic.{⊎-elim}
-use Prim.Native.Nat.{ℕ, _+_, _*_, _/_, _≤_, _<_}
+use Prim.Native.Nat.{ℕ, _+_, _*_, _/_}
 use denote.Floats.{passes}
 use lib.Ieee.{binary64, toBits, ofBits}
 use lib.Ieee.Bits.{ofBits-toBits}
@@ -9,7 +9,7 @@ use Rattle.arithmetic.specs.Sqrt.{sqrt}
 use Rattle.arithmetic.specs.Laws.Numbers.{false-not}
 use Rattle.arithmetic.specs.Laws.Compare.{equal-no-nan}
 use Rattle.arithmetic.specs.Laws.Patterns.{built-no-nan}
-use Rattle.arithmetic.proofs.SqrtDigits.{Closest}
+use Rattle.arithmetic.specs.Internal.Sqrt.{Radicand, Closest}
 use Rattle.arithmetic.proofs.SqrtPaths.{pattern-at}
 use native.Mathlib.Omega.{arith}
 use borrow.Author.Needs.{needs}
@@ -17,8 +17,8 @@ use Rattle.arithmetic.proofs.sqrt.of_normal.Statement.{statement}
 use Rattle.arithmetic.proofs.sqrt.of_normal.Tie as tie
 
 -- w, whichever the exponent, and the pattern of what is nearest to √(w * 2 ^ 52)
-digits : (c : tie.Joined1) → (4503599627370496 ≤ c .if1 .w) × (c .if1 .w + 1 < 18014398509481984)
-digits c = ⊎-elim (λ h. omega arith) (λ h. omega arith) (c .if1 .came)
+radicand : (c : tie.Joined1) → Radicand (c .if1 .w)
+radicand c = ⊎-elim (λ h. omega arith) (λ h. omega arith) (c .if1 .came)
 
 pattern : (c : tie.Joined1) (q : ℕ) → Closest (c .if1 .w) q
     → let b = c .before .before .args .b in
@@ -27,15 +27,15 @@ pattern c q h =
     let b = c .before .before .args .b in
     let k = (1021 + b / 4503599627370496) / 2 in
     ⊎-elim
-    (λ w. pattern-at b k _ 53 q (omega arith) (omega arith) (omega arith) (omega arith) (omega arith) (omega arith) (omega arith) h)
-    (λ w. pattern-at b k _ 52 q (omega arith) (omega arith) (omega arith) (omega arith) (omega arith) (omega arith) (omega arith) h)
+    (λ w. pattern-at b k _ 53 q (omega arith) (omega arith) (omega arith, omega arith) (omega arith) (omega arith) (omega arith) h)
+    (λ w. pattern-at b k _ 52 q (omega arith) (omega arith) (omega arith, omega arith) (omega arith) (omega arith) (omega arith) h)
     (c .if1 .came)
 
 float-to-bits-wrapping-sub-u64 : tie.Need-float-to-bits-wrapping-sub-u64
 float-to-bits-wrapping-sub-u64 c = false-not _ (equal-no-nan _ (c .if2 .taken))
 
 is-closest-requires : tie.Need-is-closest-requires
-is-closest-requires c κs = digits (c .before .before)
+is-closest-requires c κs = radicand (c .before .before)
 
 returns : tie.Need-returns
 returns c =
@@ -52,7 +52,7 @@ returns c =
     ∙ pattern at-w q nearest
 
 closest-requires : tie.Need-closest-requires
-closest-requires c κs = digits (c .before)
+closest-requires c κs = radicand (c .before)
 
 float-from-bits-result : tie.Need-float-from-bits-result
 float-from-bits-result c = built-no-nan _ _ (omega arith) (c .closest .ensures .2)

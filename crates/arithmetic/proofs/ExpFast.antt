@@ -33,8 +33,8 @@ use Rattle.arithmetic.specs.Laws.Sums.{add-is, sum-same}
 use Rattle.arithmetic.specs.Laws.Compare.{finite-no-nan}
 use Rattle.arithmetic.specs.Laws.Bounds.{AtMost, round-at-most, round-at-least}
 use Rattle.arithmetic.specs.Laws.PowersOfTwo.{times-power}
-use Rattle.arithmetic.proofs.Trunc.{whole-large}
-use Rattle.arithmetic.proofs.ExpGeneral.{product-at-most, half-away-round, biased-exponent, scaled, whole-part-is, exp-is}
+use Rattle.arithmetic.proofs.Trunc.{whole-part-is, whole-large}
+use Rattle.arithmetic.proofs.ExpGeneral.{product-at-most, half-away-round, biased-exponent, scaled, exp-is}
 use Rattle.arithmetic.proofs.ExpPower.{power-at}
 use Rattle.arithmetic.proofs.ExpZeroSign.{either-zero}
 

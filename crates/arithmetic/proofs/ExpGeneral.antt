@@ -1,7 +1,7 @@
 -- What `general` of `exp` gives on each path: how large k can be, k as a float and as a whole number, and the result. Assumes nothing.
 use mathlib.Core.Path.{_≡_, refl, sym, ap, _∙_, subst}
 use mathlib.Core.Bool.{Bool, true, false, cond, true≢false}
-use Prim.Native.Nat.{ℕ, zero, suc, _+_, _-_, _*_, _/_, _^_, _≤_, _<_, min}
+use Prim.Native.Nat.{ℕ, zero, suc, _+_, _-_, _*_, _/_, _^_, _≤_, _<_}
 use native.Mathlib.Nat.{le-trans, le-of-eq, lt-of-le-of-lt, mul-mul-mul-comm, mul-pos, mul-le-mul-right, div-lt-iff-lt-mul, min-eq-left}
 use native.Mathlib.Omega.{arith}
 use borrow.Author.Tests.{ltb-false, le-leb, lt-leb}
@@ -20,6 +20,7 @@ use Rattle.arithmetic.specs.Laws.Signs.{is-nan}
 use Rattle.arithmetic.specs.Laws.Sums.{add-is}
 use Rattle.arithmetic.specs.Laws.Bounds.{AtMost, round-at-most}
 use Rattle.arithmetic.specs.Laws.PowersOfTwo.{times-fraction}
+use Rattle.arithmetic.proofs.Trunc.{whole-part-is, trunc-is}
 
 -- ---- between the thresholds x is finite, and its size is at most that of the threshold on its side
 between-finite : (x : Float) → isNan x ≡ false → lt oThreshold x ≡ false → lt x uThreshold ≡ false → T (finite x)
@@ -70,10 +71,10 @@ unfolding halfAway sub neg ofBits
 half-away-is true x = refl
 half-away-is false x = refl
 
-sum-alike : (s : Bool) (a b c : ℕ) → sum binary64 s a s b c ≡ round binary64 s (a + b) c
+sum-of-one-sign : (s : Bool) (a b c : ℕ) → sum binary64 s a s b c ≡ round binary64 s (a + b) c
 unfolding sum
-sum-alike true a b c = refl
-sum-alike false a b c = refl
+sum-of-one-sign true a b c = refl
+sum-of-one-sign false a b c = refl
 
 -- w, x / ln 2 and a half, has the sign s, and its whole part is at most `most s`
 pub record Bounded (s : Bool) (w : Float) : Type 0 where
@@ -102,7 +103,7 @@ half-away-round s x p e =
     half-away-is s x
     ∙ add-is binary64 w (fin s 1 (negsuc 0)) p tt
     ∙ ap (λ (t : Bool). sum binary64 t (num w * 2) s (1 * 1 * den w) (den w * 2)) e
-    ∙ sum-alike s (num w * 2) (1 * 1 * den w) (den w * 2)
+    ∙ sum-of-one-sign s (num w * 2) (1 * 1 * den w) (den w * 2)
 
 module _ (x : Float) (p : T (finite x)) (h : num x * den (threshold (isSignMinus x)) ≤ num (threshold (isSignMinus x)) * den x) where
   abbrev s : Bool
@@ -142,17 +143,6 @@ bounded x n h l s w e v =
     subst (Bounded s) (sym v) (subst (λ (t : Bool). Bounded t (halfAway t x)) (sym e) (bounded-at x p (within-threshold x p h l)))
 
 -- ---- k as a float, and as a whole number
-trunc-is : (w : Float) → T (finite w) → trunc w ≡ round binary64 (isSignMinus w) (num w / den w) 1
-unfolding trunc
-trunc-is nan h = absurd h
-trunc-is (inf s) h = absurd h
-trunc-is (fin s m e) h = refl
-
-pub whole-part-is : (w : Float) → T (finite w) → wholePart w ≡ min (num w / den w) (2 ^ 52)
-whole-part-is nan h = absurd h
-whole-part-is (inf s) h = absurd h
-whole-part-is (fin s m e) h = refl
-
 pub most-le : (s : Bool) → most s ≤ 1075
 most-le true = lit≤ tt
 most-le false = lit≤ tt

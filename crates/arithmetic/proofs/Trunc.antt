@@ -9,7 +9,6 @@ use native.Mathlib.Nat.{add-mul, mul-one, mul-assoc, mul-comm, mul-right-comm, m
 use native.Mathlib.Nat.{mod-lt, mod-eq-of-lt, div-eq-of-lt, div-mul-le-self, div-add-mod', le-div-iff-mul-le, div-lt-iff-lt-mul}
 use native.Mathlib.Nat.{mul-div-cancel, mul-div-mul-right, mul-add-div-right, eq-of-mul-eq-mul-right}
 use native.Mathlib.Omega.{arith}
-use lib.IntN.{ℤ}
 use lib.Dec.{T, leb, le→leb, leb→le, lit≤, lit<}
 use lib.Pow.{pow-add, pow-pos, pow-mono, shl-lt, field as middle}
 use lib.Bits.{bitAnd, and-mask, mask-lt}
@@ -19,13 +18,15 @@ use borrow.Author.Tests.{le-leb, lt-leb}
 use lib.Ieee.Exact.{HasValue}
 use lib.Ieee.Digits.{back}
 use lib.Ieee.Fits.{down-pos}
+use lib.Ieee.Scale.{finite}
+use lib.Ieee.Positive.{num, den, den-pos}
 use lib.Ieee.Nearest.{div-same}
-use Rattle.arithmetic.specs.Basic.{trunc}
+use Rattle.arithmetic.specs.Basic.{isSignMinus, trunc}
 use Rattle.arithmetic.specs.Internal.WholePart.{wholePart}
 use Rattle.arithmetic.specs.Laws.Representable.{representable, round-self}
 use Rattle.arithmetic.specs.Laws.Numbers.{lt-or-le, pow-split, same-test, false-not}
 use Rattle.arithmetic.specs.Laws.Patterns.{ofBits-is, read-more, bits-no-nan}
-use Rattle.arithmetic.specs.Laws.Times.{has-finite, rescale}
+use Rattle.arithmetic.specs.Laws.Times.{cross, has-finite, rescale}
 use Rattle.arithmetic.specs.Laws.Compare.{finite-no-nan}
 use Rattle.arithmetic.specs.Laws.Signs.{is-nan, sign-bit}
 use Rattle.arithmetic.proofs.MulAddDecode.{value-subnormal, value-normal}
@@ -38,13 +39,24 @@ trunc-nan = refl
 pub trunc-of-nan : (x : Float) → ne x x ≡ true → x ≡ trunc x
 trunc-of-nan x h = let e = is-nan x h in e ∙ sym (ap trunc e ∙ trunc-nan)
 
--- ---- the whole part, by the fields
-whole-of : (x : Float) (s : Bool) (a : ℕ) → HasValue x s a (2 ^ 1074) → wholePart x ≡ min (a / 2 ^ 1074) (2 ^ 52)
-whole-of nan s a h = absurd h
-whole-of (inf t) s a h = absurd h
-whole-of (fin t m e) s a h = ap (λ (z : ℕ). min z (2 ^ 52)) (div-same (m * up e) (down e) a (2 ^ 1074) (down-pos e) (pow-pos 1074) (h .1))
+-- ---- the whole part and `trunc` of a finite value, by its fraction
+pub whole-part-is : (w : Float) → T (finite w) → wholePart w ≡ min (num w / den w) (2 ^ 52)
+whole-part-is nan h = absurd h
+whole-part-is (inf s) h = absurd h
+whole-part-is (fin s m e) h = refl
 
--- the field and the digits
+pub trunc-is : (w : Float) → T (finite w) → trunc w ≡ round binary64 (isSignMinus w) (num w / den w) 1
+unfolding trunc
+trunc-is nan h = absurd h
+trunc-is (inf s) h = absurd h
+trunc-is (fin s m e) h = refl
+
+whole-part-of : (x : Float) (s : Bool) (a : ℕ) → HasValue x s a (2 ^ 1074) → wholePart x ≡ min (a / 2 ^ 1074) (2 ^ 52)
+whole-part-of x s a h =
+    whole-part-is x (has-finite x s a (2 ^ 1074) h)
+    ∙ ap (λ (z : ℕ). min z (2 ^ 52)) (div-same (num x) (den x) a (2 ^ 1074) (den-pos x) (pow-pos 1074) (cross x s a (2 ^ 1074) h))
+
+-- ---- the whole part, by the pattern's fields: the exponent's, the fraction's, the sign
 abbrev field : Float → ℕ
 field x = bitAnd (toBits binary64 x / 2 ^ 52) 0x7ff
 
@@ -62,22 +74,22 @@ field-of-infinity false = refl
 digits-lt : (t : ℕ) → t < 4503599627370496 → 4503599627370496 + t < 9007199254740992
 digits-lt t h = omega arith
 
--- the whole part of q * 2 ^ j of the smallest values: 0, some of the digits of q, or all of them
-cut-low : (q j : ℕ) → q < 2 ^ 53 → j < 1022 → min (q * 2 ^ j / 2 ^ 1074) (2 ^ 52) ≡ 0
-cut-low q j h b =
+-- the whole part of q * 2 ^ j of the smallest values: below 1, with its last p digits below the unit, and from 2 ^ 52 on
+part-below-one : (q j : ℕ) → q < 2 ^ 53 → j < 1022 → min (q * 2 ^ j / 2 ^ 1074) (2 ^ 52) ≡ 0
+part-below-one q j h b =
     let room : 53 + j ≤ 1074 = omega (arith, b) in
     ap (λ (z : ℕ). min z (2 ^ 52)) (div-eq-of-lt (lt-of-lt-of-le (shl-lt 53 j h) (pow-mono room)))
 
-cut-at : (q j p : ℕ) → q < 2 ^ 53 → j + p ≡ 1074 → 0 < p → q / 2 ^ p ≡ min (q * 2 ^ j / 2 ^ 1074) (2 ^ 52)
-cut-at q j p h e P =
+part-by-shift : (q j p : ℕ) → q < 2 ^ 53 → j + p ≡ 1074 → 0 < p → q / 2 ^ p ≡ min (q * 2 ^ j / 2 ^ 1074) (2 ^ 52)
+part-by-shift q j p h e P =
     let room : 53 ≤ 52 + p = omega (arith, P) in
     let whole : q / 2 ^ p ≡ q * 2 ^ j / 2 ^ 1074 =
     sym (mul-div-mul-right q (2 ^ p) (pow-pos j)) ∙ ap (λ (z : ℕ). q * 2 ^ j / z) (mul-comm (2 ^ p) (2 ^ j) ∙ pow-split j p 1074 e) in
     sym (min-eq-left (le-of-lt (div-lt-iff-lt-mul (pow-pos p) .1 (lt-of-lt-of-le h (le-trans (pow-mono room) (le-of-eq (pow-add 2 52 p)))))))
     ∙ ap (λ (z : ℕ). min z (2 ^ 52)) whole
 
-cut-high : (q j : ℕ) → 2 ^ 52 ≤ q → 1074 ≤ j → 2 ^ 52 ≡ min (q * 2 ^ j / 2 ^ 1074) (2 ^ 52)
-cut-high q j h b = sym (min-eq-right (le-div-iff-mul-le (pow-pos 1074) .1 (mul-le-mul h (pow-mono b))))
+part-capped : (q j : ℕ) → 2 ^ 52 ≤ q → 1074 ≤ j → 2 ^ 52 ≡ min (q * 2 ^ j / 2 ^ 1074) (2 ^ 52)
+part-capped q j h b = sym (min-eq-right (le-div-iff-mul-le (pow-pos 1074) .1 (mul-le-mul h (pow-mono b))))
 
 by-field : (x : Float) → T (fits binary64 x) → T (not (isNan x)) → (n f : ℕ) → field x ≡ f
     → (f ≡ 2047 → n ≡ 2 ^ 52)
@@ -89,38 +101,34 @@ by-field nan F N n f e a b d = absurd N
 by-field (inf s) F N n f e a b d = a (sym e ∙ field-of-infinity s)
 by-field (fin s m g) F N n zero e a b d =
     let x = fin s m g in
-    b refl ∙ sym (whole-of x (negative x) (digits x * 2 ^ 0) (value-subnormal x F tt e))
+    b refl ∙ sym (whole-part-of x (negative x) (digits x * 2 ^ 0) (value-subnormal x F tt e))
 by-field (fin s m g) F N n (suc j) e a b d =
     let x = fin s m g in
-    d j refl ∙ sym (whole-of x (negative x) ((2 ^ 52 + digits x) * 2 ^ j) (value-normal x F tt j e))
+    d j refl ∙ sym (whole-part-of x (negative x) ((2 ^ 52 + digits x) * 2 ^ j) (value-normal x F tt j e))
 
 module _ (x : Float) (F : T (fits binary64 x)) (N : T (not (isNan x))) where
   few : digits x < 2 ^ 52
   few = mask-lt (toBits binary64 x) 52
 
-  pub below-the-unit : field x < 1023 → 0 ≡ wholePart x
-  below-the-unit h =
+  pub whole-below-one : field x < 1023 → 0 ≡ wholePart x
+  whole-below-one h =
       by-field x F N 0 (field x) refl (λ e. absurd (omega (arith, h, e)))
-      (λ e. sym (cut-low (digits x) 0 (lt-of-lt-of-le few (lit≤ tt)) (lit< tt)))
-      (λ j e. sym (cut-low (2 ^ 52 + digits x) j (digits-lt (digits x) few) (omega (arith, h, e))))
+      (λ e. sym (part-below-one (digits x) 0 (lt-of-lt-of-le few (lit≤ tt)) (lit< tt)))
+      (λ j e. sym (part-below-one (2 ^ 52 + digits x) j (digits-lt (digits x) few) (omega (arith, h, e))))
 
-  pub at-the-unit : 1012 ≤ field x → field x < 1075 → (digits x + 2 ^ 52) / 2 ^ (1075 - field x) ≡ wholePart x
-  at-the-unit g h =
+  pub whole-by-shift : 1012 ≤ field x → field x < 1075 → (digits x + 2 ^ 52) / 2 ^ (1075 - field x) ≡ wholePart x
+  whole-by-shift g h =
       ap (λ (z : ℕ). z / 2 ^ (1075 - field x)) (add-comm (digits x) (2 ^ 52))
       ∙ by-field x F N ((2 ^ 52 + digits x) / 2 ^ (1075 - field x)) (field x) refl
       (λ e. absurd (omega (arith, h, e))) (λ e. absurd (omega (arith, g, e)))
-      (λ j e. cut-at (2 ^ 52 + digits x) j (1075 - field x) (digits-lt (digits x) few) (omega (arith, h, e)) (omega (arith, h)))
+      (λ j e. part-by-shift (2 ^ 52 + digits x) j (1075 - field x) (digits-lt (digits x) few) (omega (arith, h, e)) (omega (arith, h)))
 
-  pub above-the-unit : 1075 ≤ field x → 2 ^ 52 ≡ wholePart x
-  above-the-unit h =
+  pub whole-capped : 1075 ≤ field x → 2 ^ 52 ≡ wholePart x
+  whole-capped h =
       by-field x F N (2 ^ 52) (field x) refl (λ e. refl) (λ e. absurd (omega (arith, h, e)))
-      (λ j e. cut-high (2 ^ 52 + digits x) j (le-add-right (2 ^ 52) (digits x)) (omega (arith, h, e)))
+      (λ j e. part-capped (2 ^ 52 + digits x) j (le-add-right (2 ^ 52) (digits x)) (omega (arith, h, e)))
 
--- ---- `trunc`
-trunc-fin : (s : Bool) (m : ℕ) (e : ℤ) → trunc (fin s m e) ≡ round binary64 s (m * up e / down e) 1
-unfolding trunc
-trunc-fin s m e = refl
-
+-- ---- `trunc`, by the whole part
 trunc-inf : (s : Bool) → trunc (inf s) ≡ inf s
 unfolding trunc
 trunc-inf s = refl
@@ -133,7 +141,7 @@ trunc-small (inf s) n F N e h = absurd (omega (arith, e, h))
 trunc-small (fin s m d) n F N e h =
     ap (λ (t : Bool). round binary64 t n 1) (sym (sign-bit (fin s m d) F refl))
     ∙ ap (λ (z : ℕ). round binary64 s z 1) (e ∙ min-left (m * up d / down d) (subst (λ (z : ℕ). z < 2 ^ 52) e h))
-    ∙ sym (trunc-fin s m d)
+    ∙ sym (trunc-is (fin s m d) tt)
   where
     min-left : (a : ℕ) → min a 4503599627370496 < 4503599627370496 → min a 4503599627370496 ≡ a
     min-left a h = omega arith
@@ -178,7 +186,7 @@ trunc-large (fin s m d) F N h =
     let n-is : n ≡ w * l = whole-large n l (o .digits) (o .place) L (o .exact) (o .few) (reach (n / l) h) in
     sym (round-self binary64 (fin s m d) s w 1 (pow-pos 0) F (refl, mul-one n ∙ n-is))
     ∙ ap (λ (z : ℕ). round binary64 s z 1) (sym (ap (λ (z : ℕ). z / l) n-is ∙ mul-div-cancel w L))
-    ∙ sym (trunc-fin s m d)
+    ∙ sym (trunc-is (fin s m d) tt)
   where
     reach : (a : ℕ) → 4503599627370496 ≤ min a 4503599627370496 → 4503599627370496 ≤ a
     reach a h = omega arith
@@ -271,7 +279,7 @@ module _ (x : Float) (F : T (fits binary64 x)) (N : T (not (isNan x))) where
   p = 1075 - field x
 
   pub trunc-zero : field x < 1023 → ofBits binary64 (b - b % 9223372036854775808) ≡ trunc x
-  trunc-zero h = zero-pattern b (toBits-lt binary64 x F) ∙ trunc-small x 0 F N (below-the-unit x F N h) (lit< tt)
+  trunc-zero h = zero-pattern b (toBits-lt binary64 x F) ∙ trunc-small x 0 F N (whole-below-one x F N h) (lit< tt)
 
   module _ (lo : 1023 ≤ field x) (hi : field x < 1075) where
     at-field : HasValue (ofBits binary64 (b / 2 ^ p * 2 ^ p)) (negative x) ((2 ^ 52 + b % 2 ^ 52) / 2 ^ p) 1
@@ -309,7 +317,7 @@ module _ (x : Float) (F : T (fits binary64 x)) (N : T (not (isNan x))) where
         ap (ofBits binary64) drop-mod
         ∙ sym (round-self binary64 v (negative x) ((2 ^ 52 + b % 2 ^ 52) / 2 ^ p) 1 (pow-pos 0) (ofBits-fits binary64 (b / 2 ^ p * 2 ^ p)) at-field)
         ∙ ap (λ (z : ℕ). round binary64 (negative x) z 1) same
-        ∙ trunc-small x n F N (at-the-unit x F N (le-trans (lit≤ tt) lo) hi) few
+        ∙ trunc-small x n F N (whole-by-shift x F N (le-trans (lit≤ tt) lo) hi) few
       where
         short : (t : ℕ) → t < 4503599627370496 → t + 4503599627370496 < 2 ^ 53
         short t h = omega arith
@@ -318,4 +326,4 @@ module _ (x : Float) (F : T (fits binary64 x)) (N : T (not (isNan x))) where
         room f h = omega arith
 
   pub trunc-whole : 1075 ≤ field x → x ≡ trunc x
-  trunc-whole h = trunc-large x F N (le-of-eq (above-the-unit x F N h))
+  trunc-whole h = trunc-large x F N (le-of-eq (whole-capped x F N h))

@@ -1,13 +1,13 @@
 -- What `general` of `exp` gives on each path: how large k can be, k as a float and as a whole number, and the result. Assumes nothing.
 use mathlib.Core.Path.{_≡_, refl, sym, ap, _∙_, subst}
 use mathlib.Core.Bool.{Bool, true, false, cond, true≢false}
-use Prim.Native.Nat.{ℕ, zero, suc, _+_, _-_, _*_, _/_, _^_, _≤_, _<_}
+use Prim.Native.Nat.{ℕ, zero, suc, _+_, _-_, _*_, _/_, _≤_, _<_}
 use native.Mathlib.Nat.{le-trans, le-of-eq, lt-of-le-of-lt, mul-mul-mul-comm, mul-pos, mul-le-mul-right, div-lt-iff-lt-mul, min-eq-left}
 use native.Mathlib.Omega.{arith}
 use borrow.Author.Tests.{ltb-false, le-leb, lt-leb}
 use lib.IntN.{pos, negsuc}
-use lib.Dec.{T, le→leb, lt→ltb, lit≤}
-use lib.Ieee.{up, down, Float, nan, inf, fin, binary64, minus, round, neg, sum, add, sub, lt, ne, fits, isNan, ofBits, ofInt, toSigned, inFloat}
+use lib.Dec.{T, lit≤}
+use lib.Ieee.{up, down, Float, nan, inf, fin, binary64, minus, round, neg, sum, add, sub, lt, ne, fits, isNan, ofBits, toSigned}
 use lib.Ieee.Back.{positive-back, negative-back}
 use lib.Ieee.Exact.{HasValue}
 use lib.Ieee.Scale.{finite}
@@ -21,6 +21,7 @@ use Rattle.arithmetic.specs.Laws.Sums.{add-is}
 use Rattle.arithmetic.specs.Laws.Bounds.{AtMost, round-at-most}
 use Rattle.arithmetic.specs.Laws.PowersOfTwo.{times-fraction}
 use Rattle.arithmetic.proofs.Trunc.{whole-part-is, trunc-is}
+use Rattle.arithmetic.proofs.Integers.{ofInt-pos, ofInt-negsuc, integer-fits, negative-fits}
 
 -- ---- between the thresholds x is finite, and its size is at most that of the threshold on its side
 between-finite : (x : Float) → isNan x ≡ false → lt oThreshold x ≡ false → lt x uThreshold ≡ false → T (finite x)
@@ -179,31 +180,20 @@ minus-down n h =
     same : 1075 - suc (1075 - suc n) ≡ n
     same = omega arith
 
-in-float : (n : ℕ) → n ≤ 1075 → T (inFloat binary64 (pos n)) × (n < 2 ^ 63)
-unfolding inFloat
-in-float n h = (le→leb n (2 ^ 53) (le-trans h (lit≤ tt)), lt-of-le-of-lt h (lit≤ tt))
-
-in-float-below : (n : ℕ) → suc n ≤ 1075 → T (inFloat binary64 (negsuc n)) × (suc n ≤ 2 ^ 63)
-unfolding inFloat
-in-float-below n h = (lt→ltb n (2 ^ 53) (le-trans h (lit≤ tt)), le-trans h (lit≤ tt))
-
 signed-zero : toSigned 63 (round binary64 true 0 1) ≡ pos 0
 unfolding toSigned round
 signed-zero = refl
 
-pub ofInt-pos : (n : ℕ) → ofInt binary64 (pos n) ≡ round binary64 false n 1
-unfolding ofInt
-ofInt-pos n = refl
-
-ofInt-negsuc : (n : ℕ) → ofInt binary64 (negsuc n) ≡ round binary64 true (suc n) 1
-unfolding ofInt
-ofInt-negsuc n = refl
-
 whole-number : (s : Bool) (n : ℕ) → n ≤ 1075 → toSigned 63 (round binary64 s n 1) ≡ minus (biased-exponent s n) 1075
-whole-number false n h = ap (toSigned 63) (sym (ofInt-pos n)) ∙ positive-back binary64 63 n (in-float n h .0) (in-float n h .1) .1 ∙ sym (minus-up n)
+whole-number false n h =
+    ap (toSigned 63) (sym (ofInt-pos n))
+    ∙ positive-back binary64 63 n (integer-fits n (le-trans h (lit≤ tt))) (lt-of-le-of-lt h (lit≤ tt)) .1
+    ∙ sym (minus-up n)
 whole-number true zero h = signed-zero
 whole-number true (suc n) h =
-    ap (toSigned 63) (sym (ofInt-negsuc n)) ∙ negative-back binary64 63 n (in-float-below n h .0) (in-float-below n h .1) .1 ∙ sym (minus-down n h)
+    ap (toSigned 63) (sym (ofInt-negsuc n))
+    ∙ negative-back binary64 63 n (negative-fits n (le-trans h (lit≤ tt))) (le-trans h (lit≤ tt)) .1
+    ∙ sym (minus-down n h)
 
 -- ---- `exp` of NaN, above and below the thresholds, and between them
 exp-nan : exp nan ≡ nan

@@ -12,6 +12,7 @@ mod SqrtDigits
 mod SqrtPaths
 mod Trunc
 mod MaxMin
+mod Integers
 mod ExpGeneral
 mod LnPaths
 mod ExpZeroSign

@@ -11,9 +11,7 @@ use lib.Dec.{T, eqb, lt→ltb}
 use denote.Floats.{passes}
 use lib.Ieee.{Float, nan, inf, fin, binary64, up, down, minus, round, sum, add, sub, mul, neg, ofInt, isNan, lt, eq, le, ofBits}
 use lib.Ieee.Fits.{down-pos}
-use lib.Ieee.Back.{round-whole}
 use lib.Ieee.Bits.{is-true}
-use lib.Ieee.Exact.{HasValue}
 use lib.Ieee.Order.{round-mono}
 use lib.Ieee.Scale.{finite}
 use lib.Ieee.Positive.{num, den, den-pos, positive, positive-finite, first-pos, between, le→cross}
@@ -24,6 +22,7 @@ use Rattle.arithmetic.specs.Laws.Numbers.{lt-or-le}
 use Rattle.arithmetic.specs.Laws.Times.{cross, has-sign, has-finite, neg-num, neg-den, neg-sign, neg-finite}
 use Rattle.arithmetic.specs.Laws.Compare.{finite-no-nan}
 use Rattle.arithmetic.specs.Laws.Sums.{sum-same, add-is}
+use Rattle.arithmetic.proofs.Integers.{integer-value}
 use Rattle.arithmetic.proofs.SqrtPaths.{zero-by-zero}
 
 -- ---- the difference of two whole numbers is exact
@@ -35,17 +34,13 @@ whole-difference n c = go (lt-or-le n c)
     go (inl h) = let e : c - n ≡ suc (c - suc n) = omega arith in rw (lt-ltb n c h, lt-leb c n h, e)
     go (inr h) = rw (le-ltb n c h, le-leb c n h)
 
-whole-value : (n : ℕ) → n ≤ 2 ^ 53 → HasValue (ofInt binary64 (pos n)) false n 1
-unfolding ofInt
-whole-value n h = round-whole binary64 false n h
-
 pub sub-whole : (n c : ℕ) → n ≤ 2 ^ 53 → c ≤ 2 ^ 53 → ofInt binary64 (pos n) ⊖ ofInt binary64 (pos c) ≡ ofInt binary64 (minus n c)
 unfolding sub
 sub-whole n c N C =
     let x = ofInt binary64 (pos n) in
     let y = ofInt binary64 (pos c) in
-    let v = whole-value n N in
-    let w = whole-value c C in
+    let v = integer-value n N in
+    let w = integer-value c C in
     let F = has-finite y false c 1 w in
     let A : num x * den y * 1 ≡ n * (den x * den y) = over (num x) (den x) (den y) n (cross x false n 1 v) in
     let B : num y * den x * 1 ≡ c * (den x * den y) =

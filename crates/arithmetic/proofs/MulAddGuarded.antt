@@ -1,5 +1,5 @@
--- What `to_guarded` and `to_guarded_above` of `mul_add` give: v * 2 ^ e, for a v of at most 128 digits, with the digits above the place `at`, a guard digit
--- and a sticky one, rounds as it does. Assumes nothing.
+-- What `to_guarded` and `to_guarded_above` of `mul_add` give, and what `round_magnitude` makes of it: v * 2 ^ e, for a v of at most 128 digits, with the
+-- digits above the place `at`, a guard digit and a sticky one, rounds as it does. Assumes nothing.
 use mathlib.Core.Path.{_≡_, refl, sym, ap, _∙_, subst}
 use Prim.Native.Nat.{ℕ, _+_, _-_, _*_, _/_, _%_, _^_, _≤_, _<_, min}
 use native.Mathlib.Nat.{le-trans, le-of-eq, lt-irrefl, lt-of-lt-of-le, zero-mul, mul-assoc, mul-le-mul-right, mul-pos, mod-lt, le-div-iff-mul-le}
@@ -7,13 +7,22 @@ use native.Mathlib.Omega.{arith}
 use lib.Arith.{lt-one}
 use lib.Dec.{lit≤, lit<}
 use lib.Pow.{pow-pos, pow-mono, shl-lt, shr-lt, split}
-use lib.Ieee.{size}
+use mathlib.Core.Bool.{Bool}
+use lib.Ieee.{binary64, units, round, size}
 use lib.Ieee.Digits.{size-lt, size-reaches}
 use lib.Ieee.Nearest.{closest, closest-same}
 use Rattle.arithmetic.specs.Internal.Pair.{jammed}
+use Rattle.arithmetic.specs.declared.mul_add.Guarded.{Guarded}
 use Rattle.arithmetic.specs.Internal.MulAdd.{IsGuarded}
 use Rattle.arithmetic.specs.Laws.Numbers.{pow-split, size-mul}
-use Rattle.arithmetic.proofs.RoundDropped.{closest-jam, size-div}
+use Rattle.arithmetic.proofs.RoundDropped.{closest-jam, size-div, round-at}
+
+-- ---- what is guarded rounds as the number that it stands for, n units of 2 ^ -2148
+pub guarded-round : (s : Bool) (n : ℕ) (r : Guarded) → IsGuarded n r → units binary64 s (closest (r .m) 4) (r .k) ≡ round binary64 s n (2 ^ 2148)
+guarded-round s n r h =
+    ap (λ (x : ℕ). units binary64 s x (r .k)) (sym (h .same))
+    ∙ ap (λ (k : ℕ). units binary64 s (closest n (2 ^ (1074 + k))) k) (h .count)
+    ∙ sym (round-at s n)
 
 -- ---- a v that is 0
 nothing : IsGuarded 0 (record { m = 0; k = 0 })

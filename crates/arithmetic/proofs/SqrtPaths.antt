@@ -14,7 +14,6 @@ use lib.Ieee.Bits.{ofBits-fits, ofBits-toBits}
 use lib.Ieee.Digits.{size-lt, size-le}
 use lib.Ieee.Positive.{num, den, den-pos, positive-of-value}
 use lib.Ieee.Fits.{round-fits}
-use lib.Ieee.Back.{round-whole}
 use lib.Ieee.Exact.{HasValue, odd-sign}
 use Rattle.arithmetic.specs.Laws.Numbers.{pow-split, four, size-mul, false-not}
 use Rattle.arithmetic.specs.Laws.Times.{Times, has-finite, rescale, of-cross, positive-sign}
@@ -31,6 +30,7 @@ use Rattle.arithmetic.specs.Laws.Patterns.{signed-is, at-zero, above-zer
 use Rattle.arithmetic.specs.Laws.WholeRoots.{units-at}
 use Rattle.arithmetic.specs.Laws.SqrtValues.{sqrt-of, sqrt-below}
 use Rattle.arithmetic.specs.Internal.Sqrt.{Radicand, Closest}
+use Rattle.arithmetic.proofs.Integers.{integer-value}
 
 -- ---- NaN, the infinity, and the two zeros
 at-nan : sqrt nan ≡ nan
@@ -123,8 +123,7 @@ module _ (b : ℕ) (some : 0 < b) (few : b < 4503599627370496) where
   y = ofInt binary64 (pos b)
 
   y-value : HasValue y false b 1
-  unfolding ofInt
-  y-value = round-whole binary64 false b (omega arith)
+  y-value = integer-value b (omega arith)
 
   y-fits : T (fits binary64 y)
   unfolding ofInt

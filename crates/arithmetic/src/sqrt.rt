@@ -12,7 +12,8 @@ use super::format::TWO_TO_52;
 use super::format::TWO_TO_53;
 use super::root_table;
 
-// Powers of two: a root of 53 binary digits is cut below its upper 27, and the others bound what is left of w.
+// Powers of two: q is cut into its upper 27 and its lower 26 binary digits; where w - s² or v reaches the other two, q is
+// far from the root, and products with it might not fit.
 const TWO_TO_26: u64 = 0x400_0000;
 
 const TWO_TO_28: u64 = 0x1000_0000;

@@ -1,85 +1,63 @@
--- `exp` of an x of ordinary size: the k of the definition by a sum with 3 * 2 ^ 51 + 1023, where x / ln 2 is near k. Assumes nothing.
+-- What `fast` of `exp` gives, for an x of which `is_in_fast_range` and `is_clear_of_tie` hold: the k of the definition, by a sum with 3 * 2 ^ 51 + 1023.
+-- 6755399441055744 is 3 * 2 ^ 51, 4503599627370496 is 2 ^ 52. Assumes nothing.
 use mathlib.Core.Path.{_≡_, refl, sym, ap, _∙_, subst}
 use mathlib.Core.Logic.{_⊎_, inl, inr}
 use Prim.Native.Nat.{ℕ, zero, suc, _+_, _-_, _*_, _/_, _%_, _^_, _≤_, _<_}
-use native.Mathlib.Nat.{le-trans, le-of-eq, le-of-lt, le-antisymm, le-of-mul-le-mul-right, lt-of-not-le, not-le-of-lt, lt-of-lt-of-le, mul-le-mul-right, mul-right-comm, min-eq-left, le-div-iff-mul-le, div-lt-iff-lt-mul, mul-one, mul-assoc, mul-comm, mul-pos}
+use native.Mathlib.Nat.{le-trans, le-of-eq, le-of-lt, le-antisymm, lt-of-not-le, not-le-of-lt, lt-of-lt-of-le, min-eq-left}
+use native.Mathlib.Nat.{le-div-iff-mul-le, div-lt-iff-lt-mul, mul-one, mul-assoc, mul-comm, mul-right-comm, mul-pos, mul-le-mul-right, le-of-mul-le-mul-right}
 use native.Mathlib.Omega.{arith}
 use mathlib.Core.Bool.{Bool, true, false, not, _&&_, cond, Bool·beq, false≢true}
 use borrow.Author.Tests.{ltb-true, lt-ltb, le-ltb}
-use lib.IntN.{pos, negsuc}
+use lib.IntN.{ℤ, pos, negsuc}
 use lib.Dec.{T, leb, ltb, eqb, lt→ltb, lit≤, lit<}
 use lib.Pow.{pow-pos}
-use lib.Ieee.{Float, nan, inf, fin, Format, binary64, low, up, down, minus, odd, round, sum, sub, neg, lt, fits, isNan, ofBits, toBits, nanBits}
+use denote.Floats.{passes}
+use lib.Ieee.{Float, nan, inf, fin, binary64, up, down, minus, odd, round, sum, sub, neg, lt, fits, isNan, ofBits, toBits, nanBits}
 use lib.Ieee.Bits.{is-true, ofBits-fits, toBits-ofBits}
 use lib.Ieee.Fits.{and-i, and-l, and-r, eq→eqb, round-fits, add-fits}
 use lib.Ieee.Back.{round-whole}
 use lib.Ieee.Exact.{HasValue, odd-sign}
-use lib.Ieee.Order.{transfer, round-mono}
-use lib.Ieee.Scale.{finite, grid}
-use lib.Ieee.Positive.{num, den, den-pos}
+use lib.Ieee.Scale.{finite}
+use lib.Ieee.Positive.{num, den, den-pos, through}
 use Rattle.arithmetic.specs.Operations.{_⊕_, _⊖_, _⊗_}
 use Rattle.arithmetic.specs.Basic.{isSignMinus}
 use Rattle.arithmetic.specs.Internal.WholePart.{wholePart}
 use Rattle.arithmetic.specs.Exp.{invLn2, oThreshold, uThreshold, halfAway, reduced, scaleB, exp}
 use Rattle.arithmetic.specs.Internal.Exp.{fastLimit, inFastRange, shift, shifted, maxRest, rest, clearOfTie}
 use Rattle.arithmetic.specs.Laws.Numbers.{lt-or-le, false-not}
+use Rattle.arithmetic.specs.Laws.Choices.{in-both}
 use Rattle.arithmetic.specs.Laws.Times.{cross, has-sign, has-finite, of-cross, rescale, neg-num, neg-den, neg-sign, neg-finite}
 use Rattle.arithmetic.specs.Laws.Patterns.{built, bits-no-nan, value-unique}
-use Rattle.arithmetic.specs.Laws.Rounding.{round-value, round-under}
-use Rattle.arithmetic.specs.Laws.Representable.{representable, round-representable}
+use Rattle.arithmetic.specs.Laws.Representable.{representable}
 use Rattle.arithmetic.specs.Laws.Sums.{add-is, sum-same}
 use Rattle.arithmetic.specs.Laws.Compare.{finite-no-nan}
-use Rattle.arithmetic.specs.Laws.Bounds.{AtMost, round-at-most, le-cross}
-use Rattle.arithmetic.specs.Laws.PowersOfTwo.{times-power, high-power}
-use Rattle.arithmetic.proofs.Trunc.{whole-large, whole-value}
-use Rattle.arithmetic.proofs.ExpGeneral.{product-at-most, half-away-round, place, part-is, exp-is}
+use Rattle.arithmetic.specs.Laws.Bounds.{AtMost, round-at-most, round-at-least}
+use Rattle.arithmetic.specs.Laws.PowersOfTwo.{times-power}
+use Rattle.arithmetic.proofs.Trunc.{whole-part-is, whole-large}
+use Rattle.arithmetic.proofs.ExpGeneral.{product-at-most, half-away-round, biased-exponent, scaled, exp-is}
+use Rattle.arithmetic.proofs.ExpPower.{power-at}
 use Rattle.arithmetic.proofs.ExpZeroSign.{either-zero}
 
--- ---- what is no smaller than a value of the format rounds to no less
-round-at-least : (f : Format) (s : Bool) (a c : ℕ) (v : Float) → 0 < c → T (fits f v) → T (finite v) → T (finite (round f s a c)) → num v * c ≤ a * den v → num v * den (round f s a c) ≤ num (round f s a c) * den v
-round-at-least f s a c v C F p t h =
-    let g = grid f a c in
-    let l = 2 ^ low f in
-    let under = round-under f s a c t in
-    let r = round f s a c in
-    let r0 = round f false a c in
-    let z = round f false (num v) (den v) in
-    let R : HasValue r s g l = round-value f s a c under in
-    let R0 : HasValue r0 false g l = round-value f false a c under in
-    let Z : HasValue z false (num v) (den v) = round-representable f false v F p in
-    let order : num z * den r0 ≤ num r0 * den z =
-    le-cross z r0 (has-finite z false (num v) (den v) Z) (has-finite r0 false g l R0) (has-sign z false (num v) (den v) Z) (has-sign r0 false g l R0) (round-mono f (num v) (den v) a c (den-pos v) C h) in
-    let whole : num v * l ≤ g * den v = transfer (num v) g (den v) l (num z) (num r0) (den z) (den r0) (den-pos z) (den-pos r0) (sym (cross z false (num v) (den v) Z)) (sym (cross r0 false g l R0)) order in
-    transfer (num v) (num r) (den v) (den r) (num v) g (den v) l (den-pos v) (pow-pos (low f)) refl (cross r s g l R) whole
+-- ---- the fast range, between -708 and 708, lies between the thresholds
+-- between -v and v, for a v = n * 2 ^ g
+between-limits : (x : Float) (n : ℕ) (g : ℤ) → lt x (fin false n g) ≡ true → lt (fin true n g) x ≡ true → T (finite x) × (num x * down g < n * up g * den x)
+unfolding lt
+between-limits nan n g h l = absurd (false≢true h)
+between-limits (inf true) n g h l = absurd (false≢true l)
+between-limits (inf false) n g h l = absurd (false≢true h)
+between-limits (fin true m e) n g h l = (tt, ltb-true _ _ l)
+between-limits (fin false m e) n g h l = (tt, ltb-true _ _ h)
 
--- ---- the limits of an ordinary x: between -708 and 708
-within : (x : Float) → lt x fastLimit ≡ true → lt (neg fastLimit) x ≡ true → T (finite x) × (num x * 1 ≤ 708 * den x)
-unfolding lt neg ofBits
-within nan h l = absurd (false≢true h)
-within (inf true) h l = absurd (false≢true l)
-within (inf false) h l = absurd (false≢true h)
-within (fin true m e) h l = (tt, le-of-lt (ltb-true (m * up e * 1) (708 * down e) l))
-within (fin false m e) h l = (tt, le-of-lt (ltb-true (m * up e * 1) (708 * down e) h))
+within-range : (x : Float) → lt x fastLimit ≡ true → lt (neg fastLimit) x ≡ true → T (finite x) × (num x * 1 ≤ 708 * den x)
+unfolding neg ofBits
+within-range x h l = let b = between-limits x 177 (pos 2) h l in (b .0, le-of-lt (b .1))
 
-not-over : (x : Float) → T (finite x) → num x * 1 ≤ 708 * den x → lt oThreshold x ≡ false
+between-thresholds : (x : Float) → T (finite x) → num x * 1 ≤ 708 * den x → (lt oThreshold x ≡ false) × (lt x uThreshold ≡ false)
 unfolding lt ofBits
-not-over nan p h = refl
-not-over (inf s) p h = absurd p
-not-over (fin true m e) p h = refl
-not-over (fin false m e) p h = le-ltb (num oThreshold * down e) (m * up e * den oThreshold) (go (m * up e) (down e) h)
-  where
-    go : (n d : ℕ) → n * 1 ≤ 708 * d → n * den oThreshold ≤ num oThreshold * d
-    go n d h = omega arith
-
-not-under : (x : Float) → T (finite x) → num x * 1 ≤ 708 * den x → lt x uThreshold ≡ false
-unfolding lt ofBits
-not-under nan p h = refl
-not-under (inf s) p h = absurd p
-not-under (fin false m e) p h = refl
-not-under (fin true m e) p h = le-ltb (num uThreshold * down e) (m * up e * den uThreshold) (go (m * up e) (down e) h)
-  where
-    go : (n d : ℕ) → n * 1 ≤ 708 * d → n * den uThreshold ≤ num uThreshold * d
-    go n d h = omega arith
+between-thresholds nan p h = absurd p
+between-thresholds (inf s) p h = absurd p
+between-thresholds (fin true m e) p h = (refl, le-ltb _ _ (through (m * up e) 708 (num uThreshold) (down e) 1 (den uThreshold) (lit< tt) h (lit≤ tt)))
+between-thresholds (fin false m e) p h = (le-ltb _ _ (through (m * up e) 708 (num oThreshold) (down e) 1 (den oThreshold) (lit< tt) h (lit≤ tt)), refl)
 
 -- ---- x / ln 2 is at most 1022 in size
 bound-fits : T (fits binary64 (fin false 511 (pos 1)))
@@ -103,25 +81,34 @@ unfolding ofBits
 shift-is = refl
 
 -- t is 3 * 2 ^ 51 + j, so j stands in its last bits
-pub record Shifted (t : Float) : Type 0 where
-  pub j : ℕ
-  pub some : 0 < j
-  pub few : j < 2046
-  pub value : HasValue t false (6755399441055744 + j) 1
+record Shifted (t : Float) : Type 0 where
+  j : ℕ
+  some : 0 < j
+  few : j < 2046
+  value : HasValue t false (6755399441055744 + j) 1
 
--- a fraction that far up
+-- n / d of size 1022 at most, and the sum a / d with it
 sum-between : (s : Bool) (n d : ℕ) → 0 < d → n * 1 ≤ 1022 * d
-    → (a : ℕ) × (sum binary64 s (n * 1) false (6755399441056767 * d) (d * 1) ≡ round binary64 false a (d * 1)) × (6755399441055745 * d ≤ a) × (a ≤ 6755399441057789 * d)
+    → (a : ℕ)
+    × (sum binary64 s (n * 1) false (6755399441056767 * d) (d * 1) ≡ round binary64 false a (d * 1))
+    × (6755399441055745 * d ≤ a)
+    × (a ≤ 6755399441057789 * d)
 unfolding sum
 sum-between false n d D h = (n * 1 + 6755399441056767 * d, refl, omega arith, omega arith)
-sum-between true n d D h = (6755399441056767 * d - n * 1, rw (lt-ltb (n * 1) (6755399441056767 * d) (omega arith)) refl, omega arith, omega arith)
+sum-between true n d D h = (
+  6755399441056767 * d - n * 1,
+  rw (lt-ltb (n * 1) (6755399441056767 * d) (omega arith)) refl,
+  omega arith,
+  omega arith,
+)
 
 ends-fit : T (fits binary64 (fin false 6755399441055745 (pos 0))) × T (fits binary64 (fin false 6755399441057789 (pos 0)))
 unfolding fits
 ends-fit = (tt, tt)
 
 -- a value of the format between the two is whole
-whole-between : (t : Float) → T (fits binary64 t) → T (finite t) → isSignMinus t ≡ false → 6755399441055745 * den t ≤ num t → num t ≤ 6755399441057789 * den t → Shifted t
+whole-between : (t : Float) → T (fits binary64 t) → T (finite t) → isSignMinus t ≡ false
+    → 6755399441055745 * den t ≤ num t → num t ≤ 6755399441057789 * den t → Shifted t
 whole-between t F p e lo hi =
     let o = representable binary64 t F p in
     let n = num t in
@@ -129,7 +116,7 @@ whole-between t F p e lo hi =
     let L = den-pos t in
     let far = le-div-iff-mul-le L .1 (le-trans (least l) lo) in
     let w = o .digits * 2 ^ (o .place - 1074) in
-    let n-is : n ≡ w * l = whole-value n l (o .digits) (o .place) L (o .exact) (whole-large n l (o .digits) (o .place) L (o .exact) (o .few) far) in
+    let n-is : n ≡ w * l = whole-large n l (o .digits) (o .place) L (o .exact) (o .few) far in
     let w-lo : 6755399441055745 ≤ w = le-of-mul-le-mul-right (le-trans lo (le-of-eq n-is)) L in
     let w-hi : w ≤ 6755399441057789 = le-of-mul-le-mul-right (le-trans (le-of-eq (sym n-is)) hi) L in
     record {
@@ -154,9 +141,13 @@ sum-is-shifted v p h =
     let r = round binary64 false a (d * 1) in
     let D : 0 < d * 1 = mul-pos (den-pos v) (lit≤ tt) in
     let is : v ⊕ shift ≡ r = ap (λ (z : Float). v ⊕ z) shift-is ∙ add-is binary64 v (fin false 6755399441056767 (pos 0)) p tt ∙ b .1 in
-    let top : AtMost false (fin false 6755399441057789 (pos 0)) r = round-at-most binary64 false a (d * 1) (fin false 6755399441057789 (pos 0)) D (ends-fit .1) tt (upper a d (b .3)) in
-    let bottom = round-at-least binary64 false a (d * 1) (fin false 6755399441055745 (pos 0)) D (ends-fit .0) tt (top .is-finite) (lower a d (b .2)) in
-    subst Shifted (sym is) (whole-between r (round-fits binary64 false a (d * 1)) (top .is-finite) (top .sign) (le-trans bottom (le-of-eq (mul-one (num r)))) (le-trans (le-of-eq (sym (mul-one (num r)))) (top .bound)))
+    let most = fin false 6755399441057789 (pos 0) in
+    let least = fin false 6755399441055745 (pos 0) in
+    let top : AtMost false most r = round-at-most binary64 false a (d * 1) most D (ends-fit .1) tt (upper a d (b .3)) in
+    let bottom = round-at-least binary64 false a (d * 1) least D (ends-fit .0) tt (top .is-finite) (lower a d (b .2)) in
+    subst Shifted (sym is)
+    (whole-between r (round-fits binary64 false a (d * 1)) (top .is-finite) (top .sign)
+    (le-trans bottom (le-of-eq (mul-one (num r)))) (le-trans (le-of-eq (sym (mul-one (num r)))) (top .bound)))
   where
     upper : (a d : ℕ) → a ≤ 6755399441057789 * d → a * 1 ≤ 6755399441057789 * (d * 1)
     upper a d h = omega arith
@@ -166,7 +157,7 @@ sum-is-shifted v p h =
 
 -- ---- the pattern of the sum
 module _ (t : Float) (F : T (fits binary64 t)) (S : Shifted t) where
-  pub shifted-bits : toBits binary64 t ≡ 0x4338_0000_0000_0000 + S .j
+  shifted-bits : toBits binary64 t ≡ 0x4338_0000_0000_0000 + S .j
   shifted-bits =
       let n = 6755399441055744 + S .j in
       let lo : 4503599627370496 ≤ n = omega arith in
@@ -174,10 +165,12 @@ module _ (t : Float) (F : T (fits binary64 t)) (S : Shifted t) where
       let b = 1074 * 4503599627370496 + n in
       let is : ofBits binary64 b ≡ odd 53 false n 1074 1074 = built 1074 n (lit< tt) lo hi in
       let value : HasValue (ofBits binary64 b) false n 1 =
-      subst (λ (z : Float). HasValue z false n 1) (sym is) (rescale (odd 53 false n 1074 1074) false (n * 2 ^ 1074) (2 ^ 1074) n 1 (pow-pos 1074) (sym (mul-one (n * 2 ^ 1074))) (odd-sign 53 false n 1074 1074)) in
+      subst (λ (z : Float). HasValue z false n 1) (sym is)
+      (rescale (odd 53 false n 1074 1074) false (n * 2 ^ 1074) (2 ^ 1074) n 1 (pow-pos 1074) (sym (mul-one (n * 2 ^ 1074))) (odd-sign 53 false n 1074 1074)) in
+      let no-nan = false-not (isNan (ofBits binary64 b)) (finite-no-nan (ofBits binary64 b) (has-finite (ofBits binary64 b) false n 1 value)) in
       let same : t ≡ ofBits binary64 b = value-unique binary64 t (ofBits binary64 b) false n 1 (pow-pos 0) F (ofBits-fits binary64 b) (S .value) value in
       ap (toBits binary64) same
-      ∙ toBits-ofBits binary64 b (under (S .j) (S .few)) (false-not (isNan (ofBits binary64 b)) (finite-no-nan (ofBits binary64 b) (has-finite (ofBits binary64 b) false n 1 value)))
+      ∙ toBits-ofBits binary64 b (under (S .j) (S .few)) no-nan
       ∙ apart (S .j)
     where
       under : (j : ℕ) → j < 2046 → 1074 * 4503599627370496 + (6755399441055744 + j) < 18446744073709551616
@@ -213,7 +206,7 @@ sub-is : (x y : Float) → x ⊖ y ≡ x ⊕ neg y
 unfolding sub
 sub-is x y = refl
 
-pub k-is : (t : Float) (S : Shifted t) → t ⊖ shift ≡ round binary64 (k-sign (S .j)) (k-size (S .j)) 1
+k-is : (t : Float) (S : Shifted t) → t ⊖ shift ≡ round binary64 (k-sign (S .j)) (k-size (S .j)) 1
 k-is t S =
     let n = 6755399441055744 + S .j in
     let p = has-finite t false n 1 (S .value) in
@@ -226,63 +219,68 @@ k-is t S =
     (mul-one (num t * 1) ∙ c ∙ ap (λ (z : ℕ). n * z) (sym (mul-one (den t)))) (mul-assoc 6755399441056767 (den t) 1)
     ∙ difference (S .j)
 
--- ---- the rest of x / ln 2 is below `maxRest`, 1 / 2 - 2 ^ -16, in size
+-- ---- x / ln 2 less k is below `maxRest`, 1 / 2 - 2 ^ -16, in size
 maxRest-fits : T (fits binary64 (fin false 32767 (negsuc 15)))
 unfolding fits
 maxRest-fits = tt
 
-small : (d : Float) → lt d maxRest ≡ true → lt (neg maxRest) d ≡ true → T (finite d) × (num d * 65536 < 32767 * den d)
-unfolding lt neg ofBits
-small nan h l = absurd (false≢true h)
-small (inf true) h l = absurd (false≢true l)
-small (inf false) h l = absurd (false≢true h)
-small (fin true m e) h l = (tt, ltb-true (m * up e * 65536) (32767 * down e) l)
-small (fin false m e) h l = (tt, ltb-true (m * up e * 65536) (32767 * down e) h)
+within-rest : (d : Float) → lt d maxRest ≡ true → lt (neg maxRest) d ≡ true → T (finite d) × (num d * 65536 < 32767 * den d)
+unfolding neg ofBits
+within-rest d h l = between-limits d 32767 (negsuc 15) h l
 
--- the size of a sum
+-- the size of the sum of a and b with the signs s and t
 abbrev apart-by : Bool → Bool → ℕ → ℕ → ℕ
 apart-by s t a b = cond (Bool·beq s t) (a + b) (a - b + (b - a))
+
+difference-size : (s t : Bool) (a b c : ℕ)
+    → (u : Bool) × (cond (ltb a b) (round binary64 t (b - a) c) (round binary64 (s && ltb b a) (a - b) c) ≡ round binary64 u (a - b + (b - a)) c)
+difference-size s t a b c = go (lt-or-le a b)
+  where
+    go : (a < b) ⊎ (b ≤ a)
+        → (u : Bool) × (cond (ltb a b) (round binary64 t (b - a) c) (round binary64 (s && ltb b a) (a - b) c) ≡ round binary64 u (a - b + (b - a)) c)
+    go (inl h) = (t, rw (lt-ltb a b h) (ap (λ (z : ℕ). round binary64 t z c) (omega arith)))
+    go (inr h) = (s && ltb b a, rw (le-ltb a b h) (ap (λ (z : ℕ). round binary64 (s && ltb b a) z c) (omega arith)))
 
 sum-size : (s t : Bool) (a b c : ℕ) → (u : Bool) × (sum binary64 s a t b c ≡ round binary64 u (apart-by s t a b) c)
 unfolding sum
 sum-size true true a b c = (true, refl)
 sum-size false false a b c = (false, refl)
-sum-size true false a b c = go (lt-or-le a b)
-  where
-    go : (a < b) ⊎ (b ≤ a) → (u : Bool) × (sum binary64 true a false b c ≡ round binary64 u (a - b + (b - a)) c)
-    go (inl h) = (false, rw (lt-ltb a b h) (ap (λ (z : ℕ). round binary64 false z c) (omega arith)))
-    go (inr h) = (ltb b a, rw (le-ltb a b h) (ap (λ (z : ℕ). round binary64 (ltb b a) z c) (omega arith)))
-sum-size false true a b c = go (lt-or-le a b)
-  where
-    go : (a < b) ⊎ (b ≤ a) → (u : Bool) × (sum binary64 false a true b c ≡ round binary64 u (a - b + (b - a)) c)
-    go (inl h) = (true, rw (lt-ltb a b h) (ap (λ (z : ℕ). round binary64 true z c) (omega arith)))
-    go (inr h) = (false, rw (le-ltb a b h) (ap (λ (z : ℕ). round binary64 false z c) (omega arith)))
+sum-size true false a b c = difference-size true false a b c
+sum-size false true a b c = difference-size false true a b c
 
 -- v less the whole number n of the sign u
-less-whole : (v k : Float) (u : Bool) (n : ℕ) → T (finite v) → HasValue k u n 1 → v ⊖ k ≡ sum binary64 (isSignMinus v) (num v) (not u) (n * den v) (den v)
+less-whole : (v k : Float) (u : Bool) (n : ℕ) → T (finite v) → HasValue k u n 1
+    → v ⊖ k ≡ sum binary64 (isSignMinus v) (num v) (not u) (n * den v) (den v)
 less-whole v k u n p K =
     let q = has-finite k u n 1 K in
     let c : num k * 1 ≡ n * den k = cross k u n 1 K in
     sub-is v k
     ∙ add-is binary64 v (neg k) p (neg-finite k q)
     ∙ rw (neg-sign k q, has-sign k u n 1 K, neg-num k, neg-den k)
-    (sum-same binary64 (isSignMinus v) (not u) (num v) (n * den v) (den v) (num v * den k) (num k * den v) (den v * den k) (den-pos v) (mul-pos (den-pos v) (den-pos k))
+    (sum-same binary64 (isSignMinus v) (not u) (num v) (n * den v) (den v) (num v * den k) (num k * den v) (den v * den k)
+    (den-pos v) (mul-pos (den-pos v) (den-pos k))
     (mul-assoc (num v) (den k) (den v) ∙ ap (λ (z : ℕ). num v * z) (mul-comm (den k) (den v))) (second (num k) n (den v) (den k) c))
   where
     second : (a n d l : ℕ) → a * 1 ≡ n * l → a * d * d ≡ n * d * (d * l)
-    second a n d l h = ap (λ (z : ℕ). z * d * d) (sym (mul-one a) ∙ h) ∙ (let r : n * l * d * d ≡ n * d * (d * l) = simp (mul-assoc, mul-comm) in r)
+    second a n d l h =
+        let r : n * l * d * d ≡ n * d * (d * l) = simp (mul-assoc, mul-comm) in
+        ap (λ (z : ℕ). z * d * d) (sym (mul-one a) ∙ h) ∙ r
 
-rest-small : (v k : Float) (u : Bool) (n : ℕ) → T (finite v) → HasValue k u n 1 → lt (v ⊖ k) maxRest ≡ true → lt (neg maxRest) (v ⊖ k) ≡ true → apart-by (isSignMinus v) (not u) (num v) (n * den v) * 65536 < 32767 * den v
+rest-small : (v k : Float) (u : Bool) (n : ℕ) → T (finite v) → HasValue k u n 1 → lt (v ⊖ k) maxRest ≡ true → lt (neg maxRest) (v ⊖ k) ≡ true
+    → apart-by (isSignMinus v) (not u) (num v) (n * den v) * 65536 < 32767 * den v
 rest-small v k u n p K h l =
     let m = apart-by (isSignMinus v) (not u) (num v) (n * den v) in
     let z = sum-size (isSignMinus v) (not u) (num v) (n * den v) (den v) in
     let r = round binary64 (z .0) m (den v) in
     let is : v ⊖ k ≡ r = less-whole v k u n p K ∙ z .1 in
-    let b : T (finite r) × (num r * 65536 < 32767 * den r) = subst (λ (d : Float). T (finite d) × (num d * 65536 < 32767 * den d)) is (small (v ⊖ k) h l) in
-    lt-of-not-le (λ (g : 32767 * den v ≤ m * 65536). not-le-of-lt (b .1) (round-at-least binary64 (z .0) m (den v) (fin false 32767 (negsuc 15)) (den-pos v) maxRest-fits tt (b .0) g))
+    let b : T (finite r) × (num r * 65536 < 32767 * den r) =
+    subst (λ (d : Float). T (finite d) × (num d * 65536 < 32767 * den d)) is (within-rest (v ⊖ k) h l) in
+    lt-of-not-le (λ (g : 32767 * den v ≤ m * 65536).
+    not-le-of-lt (b .1) (round-at-least binary64 (z .0) m (den v) (fin false 32767 (negsuc 15)) (den-pos v) maxRest-fits tt (b .0) g))
 
 -- so n is the nearest whole number, and has the sign of v or is 0
-agree : (s u : Bool) (n a d : ℕ) → 0 < d → apart-by s (not u) a (n * d) * 65536 < 32767 * d → ((n ≡ 0) ⊎ (u ≡ s)) × ((a - n * d + (n * d - a)) * 65536 < 32767 * d)
+agree : (s u : Bool) (n a d : ℕ) → 0 < d → apart-by s (not u) a (n * d) * 65536 < 32767 * d
+    → ((n ≡ 0) ⊎ (u ≡ s)) × ((a - n * d + (n * d - a)) * 65536 < 32767 * d)
 agree true true n a d D h = (inr refl, h)
 agree false false n a d D h = (inr refl, h)
 agree true false zero a d D h = (inl refl, omega arith)
@@ -305,7 +303,8 @@ ceiling-fits n h =
     few : suc (n * 65536 + 65534) * 1 < 2 ^ 53
     few = omega arith
 
-floor-is : (s : Bool) (n a d : ℕ) → 0 < d → n < 1024 → (a - n * d + (n * d - a)) * 65536 < 32767 * d → n ≡ wholePart (round binary64 s (a * 2 + 1 * 1 * d) (d * 2))
+floor-is : (s : Bool) (n a d : ℕ) → 0 < d → n < 1024 → (a - n * d + (n * d - a)) * 65536 < 32767 * d
+    → n ≡ wholePart (round binary64 s (a * 2 + 1 * 1 * d) (d * 2))
 floor-is s n a d D few h =
     let b = a * 2 + 1 * 1 * d in
     let c = d * 2 in
@@ -315,20 +314,25 @@ floor-is s n a d D few h =
     let k = round binary64 false n 1 in
     let K : HasValue k false n 1 = round-whole binary64 false n (omega (arith, few)) in
     let top : AtMost s z w = round-at-most binary64 s b c z C (ceiling-fits n few) tt (upper n (n * d) a d refl h) in
-    let bottom : num k * den w ≤ num w * den k = round-at-least binary64 s b c k C (round-fits binary64 false n 1) (has-finite k false n 1 K) (top .is-finite) (over (num k) (den k) (cross k false n 1 K) (lower n (n * d) a d refl h)) in
-    let lo : n * den w ≤ num w = le-of-mul-le-mul-right (le-trans (le-of-eq (under (num k) (den k) (den w) (cross k false n 1 K))) bottom) (den-pos k) in
+    let K-cross : num k * 1 ≡ n * den k = cross k false n 1 K in
+    let bottom : num k * den w ≤ num w * den k =
+    round-at-least binary64 s b c k C (round-fits binary64 false n 1) (has-finite k false n 1 K) (top .is-finite)
+    (over (num k) (den k) K-cross (lower n (n * d) a d refl h)) in
+    let lo : n * den w ≤ num w = le-of-mul-le-mul-right (le-trans (le-of-eq (under (num k) (den k) (den w) K-cross)) bottom) (den-pos k) in
     let hi : num w < (n + 1) * den w = below (num w) (den w) (den-pos w) (top .bound) in
     let is : n ≡ num w / den w = le-antisymm (le-div-iff-mul-le (den-pos w) .1 lo) (le-of-lt-suc (div-lt-iff-lt-mul (den-pos w) .1 hi)) in
-    is ∙ sym (part-is w (top .is-finite) ∙ min-eq-left (subst (λ (q : ℕ). q ≤ 2 ^ 52) is (omega (arith, few))))
+    is ∙ sym (whole-part-is w (top .is-finite) ∙ min-eq-left (subst (λ (q : ℕ). q ≤ 2 ^ 52) is (omega (arith, few))))
   where
-    upper : (n p a d : ℕ) → p ≡ n * d → (a - p + (p - a)) * 65536 < 32767 * d → (a * 2 + 1 * 1 * d) * 65536 ≤ suc (n * 65536 + 65534) * 1 * (d * 2)
+    upper : (n p a d : ℕ) → p ≡ n * d → (a - p + (p - a)) * 65536 < 32767 * d
+        → (a * 2 + 1 * 1 * d) * 65536 ≤ suc (n * 65536 + 65534) * 1 * (d * 2)
     upper n p a d e h = omega arith
 
     lower : (n p a d : ℕ) → p ≡ n * d → (a - p + (p - a)) * 65536 < 32767 * d → n * (d * 2) ≤ a * 2 + 1 * 1 * d
     lower n p a d e h = omega arith
 
     over : (u l : ℕ) → u * 1 ≡ n * l → n * (d * 2) ≤ a * 2 + 1 * 1 * d → u * (d * 2) ≤ (a * 2 + 1 * 1 * d) * l
-    over u l e h = le-trans (le-of-eq (ap (λ (x : ℕ). x * (d * 2)) (sym (mul-one u) ∙ e) ∙ mul-right-comm n l (d * 2))) (mul-le-mul-right l h)
+    over u l e h =
+        le-trans (le-of-eq (ap (λ (x : ℕ). x * (d * 2)) (sym (mul-one u) ∙ e) ∙ mul-right-comm n l (d * 2))) (mul-le-mul-right l h)
 
     under : (u l q : ℕ) → u * 1 ≡ n * l → n * q * l ≡ u * q
     under u l q e = mul-right-comm n q l ∙ ap (λ (x : ℕ). x * q) (sym e ∙ mul-one u)
@@ -339,63 +343,60 @@ floor-is s n a d D few h =
     le-of-lt-suc : {a k : ℕ} → a < k + 1 → a ≤ k
     le-of-lt-suc h = omega arith
 
--- ---- 2 ^ k by its pattern, and k by its sign
-is-power : (j : ℕ) → 0 < j → j < 2046 → HasValue (ofBits binary64 (j * 4503599627370496)) false (2 ^ (52 + j)) (2 ^ 1075)
-is-power j p h =
-    let field : (j - 1) * 4503599627370496 + 4503599627370496 ≡ j * 4503599627370496 = omega arith in
-    let exponent : 1 + (52 + (j - 1)) ≡ 52 + j = omega arith in
-    subst (λ (b : ℕ). HasValue (ofBits binary64 b) false (2 ^ (52 + j)) (2 ^ 1075)) field (subst (λ (e : ℕ). HasValue (ofBits binary64 ((j - 1) * 4503599627370496 + 4503599627370496)) false (2 ^ e) (2 ^ 1075)) exponent (high-power (j - 1) (omega arith)))
-
-place-is : (j : ℕ) → 0 < j → place (k-sign j) (k-size j) ≡ 52 + j
-place-is j p = go (lt-or-le j 1023)
+-- ---- k by its sign and its size: its biased exponent, and a k of 0 of either sign
+biased-exponent-is : (j : ℕ) → 0 < j → biased-exponent (k-sign j) (k-size j) ≡ 52 + j
+biased-exponent-is j p = go (lt-or-le j 1023)
   where
-    go : (j < 1023) ⊎ (1023 ≤ j) → place (k-sign j) (k-size j) ≡ 52 + j
+    go : (j < 1023) ⊎ (1023 ≤ j) → biased-exponent (k-sign j) (k-size j) ≡ 52 + j
     go (inl h) = rw (lt-ltb j 1023 h) (omega arith)
     go (inr h) = rw (le-ltb j 1023 h) (omega arith)
 
-k-small : (j : ℕ) → 0 < j → j < 2046 → k-size j < 1024
-k-small j p h = go (lt-or-le j 1023)
-  where
-    go : (j < 1023) ⊎ (1023 ≤ j) → k-size j < 1024
-    go (inl g) = rw (lt-ltb j 1023 g) (omega arith)
-    go (inr g) = rw (le-ltb j 1023 g) (omega arith)
+k-small : (j : ℕ) → j < 2046 → k-size j < 1024
+k-small j h = in-both (λ (n : ℕ). n < 1024) (ltb j 1023) (omega arith) (omega arith)
 
 round-zero : (u : Bool) → round binary64 u 0 1 ≡ fin u 0 (pos 0)
 unfolding round
 round-zero u = refl
 
-either-sign : (x : Float) → T (fits binary64 x) → T (finite x) → (s u : Bool) (n : ℕ) → (n ≡ 0) ⊎ (u ≡ s) → scaleB (reduced x (round binary64 u n 1)) (minus (place u n) 1075) ≡ scaleB (reduced x (round binary64 s n 1)) (minus (place s n) 1075)
-either-sign x F p s u n (inr e) = ap (λ (v : Bool). scaleB (reduced x (round binary64 v n 1)) (minus (place v n) 1075)) e
-either-sign x F p s u n (inl e) = rw (e, round-zero s, round-zero u, either-zero x F p u s) (ap (λ (q : ℕ). scaleB (reduced x (fin s 0 (pos 0))) (minus q 1075)) (both u s))
+either-sign : (x : Float) → T (fits binary64 x) → T (finite x) → (s u : Bool) (n : ℕ) → (n ≡ 0) ⊎ (u ≡ s)
+    → scaled x u n ≡ scaled x s n
+either-sign x F p s u n (inr e) = ap (λ (v : Bool). scaled x v n) e
+either-sign x F p s u n (inl e) =
+    rw (e, round-zero s, round-zero u, either-zero x F p u s) (ap (λ (q : ℕ). scaleB (reduced x (fin s 0 (pos 0))) (minus q 1075)) (both u s))
   where
-    both : (u s : Bool) → place u 0 ≡ place s 0
+    both : (u s : Bool) → biased-exponent u 0 ≡ biased-exponent s 0
     both true true = refl
     both true false = refl
     both false true = refl
     both false false = refl
 
--- ---- `exp`
+-- ---- so the result is that of `exp`
 module _ (x : Float) (F : T (fits binary64 x)) (h : T (inFastRange x)) where
   abbrev v : Float
   v = x ⊗ invLn2
 
-  size : T (finite x) × (num x * 1 ≤ 708 * den x)
-  size = within x (is-true (lt x fastLimit) (and-l (lt x fastLimit) (lt (neg fastLimit) x) h)) (is-true (lt (neg fastLimit) x) (and-r (lt x fastLimit) (lt (neg fastLimit) x) h))
+  in-range : T (finite x) × (num x * 1 ≤ 708 * den x)
+  in-range =
+      let under = lt x fastLimit in
+      let over = lt (neg fastLimit) x in
+      within-range x (is-true under (and-l under over h)) (is-true over (and-r under over h))
 
   at-most : AtMost (isSignMinus x) (fin false 511 (pos 1)) v
-  at-most = quotient-at-most x (size .0) (size .1)
+  at-most = quotient-at-most x (in-range .0) (in-range .1)
 
   sum-shifted : Shifted (shifted x)
   sum-shifted = sum-is-shifted v (at-most .is-finite) (at-most .bound)
 
-  abbrev pub pattern : ℕ
+  abbrev pattern : ℕ
   pattern = toBits binary64 (shifted x)
 
   pattern-is : pattern ≡ 0x4338_0000_0000_0000 + sum-shifted .j
   pattern-is = shifted-bits (shifted x) (add-fits binary64 v shift) sum-shifted
 
   pub sum-no-nan : T (not (isNan (shifted x)))
-  sum-no-nan = false-not (isNan (shifted x)) (finite-no-nan (shifted x) (has-finite (shifted x) false (6755399441055744 + sum-shifted .j) 1 (sum-shifted .value)))
+  sum-no-nan =
+      let finite = has-finite (shifted x) false (6755399441055744 + sum-shifted .j) 1 (sum-shifted .value) in
+      false-not (isNan (shifted x)) (finite-no-nan (shifted x) finite)
 
   pub pattern-ge : 0x4338_0000_0000_0000 ≤ pattern
   pattern-ge = omega (arith, pattern-is)
@@ -406,10 +407,12 @@ module _ (x : Float) (F : T (fits binary64 x)) (h : T (inFastRange x)) where
   pub power-no-nan : T (not (nanBits binary64 ((pattern - 0x4338_0000_0000_0000) * 4503599627370496)))
   power-no-nan = bits-no-nan ((pattern - 0x4338_0000_0000_0000) * 4503599627370496) (go pattern (sum-shifted .j) pattern-is (sum-shifted .few))
     where
-      go : (b j : ℕ) → b ≡ 4843621399236968448 + j → j < 2046 → (b - 4843621399236968448) * 4503599627370496 % 9223372036854775808 ≤ 9218868437227405312
+      go : (b j : ℕ) → b ≡ 4843621399236968448 + j → j < 2046
+          → (b - 4843621399236968448) * 4503599627370496 % 9223372036854775808 ≤ 9218868437227405312
       go b j e h = omega arith
 
-  pub fast-is : T (clearOfTie x) → (y : Float) → y ≡ reduced x (shifted x ⊖ shift) → y ⊗ ofBits binary64 ((pattern - 0x4338_0000_0000_0000) * 4503599627370496) ≡ exp x
+  pub fast-is : T (clearOfTie x) → (y : Float) → y ≡ reduced x (shifted x ⊖ shift)
+      → y ⊗ ofBits binary64 ((pattern - 0x4338_0000_0000_0000) * 4503599627370496) ≡ exp x
   fast-is g y e =
       let S = sum-shifted in
       let j = S .j in
@@ -418,26 +421,29 @@ module _ (x : Float) (F : T (fits binary64 x)) (h : T (inFastRange x)) where
       let u = k-sign j in
       let s = isSignMinus x in
       let k-round : k ≡ round binary64 u n 1 = k-is (shifted x) S in
-      let few : n < 1024 = k-small j (S .some) (S .few) in
+      let few : n < 1024 = k-small j (S .few) in
       let K : HasValue k u n 1 = subst (λ (z : Float). HasValue z u n 1) (sym k-round) (round-whole binary64 u n (omega (arith, few))) in
-      let under = is-true (lt (rest x) maxRest) (and-l (lt (rest x) maxRest) (lt (neg maxRest) (rest x)) g) in
-      let over = is-true (lt (neg maxRest) (rest x)) (and-r (lt (rest x) maxRest) (lt (neg maxRest) (rest x)) g) in
-      let a = agree (isSignMinus v) u n (num v) (den v) (den-pos v) (rest-small v k u n (at-most .is-finite) K under over) in
+      let below = lt (rest x) maxRest in
+      let above = lt (neg maxRest) (rest x) in
+      let small = rest-small v k u n (at-most .is-finite) K (is-true below (and-l below above g)) (is-true above (and-r below above g)) in
+      let a = agree (isSignMinus v) u n (num v) (den v) (den-pos v) small in
       let sign : (n ≡ 0) ⊎ (u ≡ s) = subst (λ (b : Bool). (n ≡ 0) ⊎ (u ≡ b)) (at-most .sign) (a .0) in
-      let part : n ≡ wholePart (halfAway s x) = floor-is s n (num v) (den v) (den-pos v) few (a .1) ∙ ap wholePart (sym (half-away-round s x (at-most .is-finite) (at-most .sign))) in
+      let part : n ≡ wholePart (halfAway s x) =
+      floor-is s n (num v) (den v) (den-pos v) few (a .1) ∙ ap wholePart (sym (half-away-round s x (at-most .is-finite) (at-most .sign))) in
+      let between = between-thresholds x (in-range .0) (in-range .1) in
       ap (λ (b : ℕ). y ⊗ ofBits binary64 (b * 4503599627370496)) (ap (λ (b : ℕ). b - 4843621399236968448) pattern-is ∙ less j)
-      ∙ times-power y (ofBits binary64 (j * 4503599627370496)) (52 + j) (is-power j (S .some) (S .few))
-      ∙ ap (λ (q : ℕ). scaleB y (minus q 1075)) (sym (place-is j (S .some)))
-      ∙ ap (λ (z : Float). scaleB z (minus (place u n) 1075)) (e ∙ ap (reduced x) k-round)
-      ∙ either-sign x F (size .0) s u n sign
-      ∙ exp-is x (finite-no-nan x (size .0)) (not-over x (size .0) (size .1)) (not-under x (size .0) (size .1)) s (halfAway s x) n refl refl part
+      ∙ times-power y (ofBits binary64 (j * 4503599627370496)) (52 + j) (power-at j (S .some) (omega (arith, S .few)))
+      ∙ ap (λ (q : ℕ). scaleB y (minus q 1075)) (sym (biased-exponent-is j (S .some)))
+      ∙ ap (λ (z : Float). scaleB z (minus (biased-exponent u n) 1075)) (e ∙ ap (reduced x) k-round)
+      ∙ either-sign x F (in-range .0) s u n sign
+      ∙ exp-is x (finite-no-nan x (in-range .0)) (between .0) (between .1) s (halfAway s x) n refl refl part
     where
       less : (j : ℕ) → 4843621399236968448 + j - 4843621399236968448 ≡ j
       less j = omega arith
 
 -- ---- the tests, as the code has them
 pub passed : {r b : Bool} → r ≡ true → r ≡ b → T b
-passed p e = subst T (sym (sym e ∙ p)) tt
+passed p e = passes _ (sym e ∙ p)
 
 pub both-true : (a b : Bool) → (a && b) ≡ true → (a ≡ true) × (b ≡ true)
 both-true true true h = (refl, refl)

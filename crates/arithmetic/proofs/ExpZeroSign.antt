@@ -1,4 +1,4 @@
--- The sign of a zero k does not reach what `exp` makes of it. Assumes nothing.
+-- For `fast` of `exp`: `reduced` is the same for a k that is +0 and one that is -0. Assumes nothing.
 use mathlib.Core.Path.{_≡_, refl, sym, ap, _∙_}
 use Prim.Native.Nat.{ℕ, zero, suc, _*_, _<_}
 use native.Mathlib.Nat.{zero-mul, zero-add, sub-zero, mul-one, one-mul, mul-pos, zero-lt-suc}
@@ -10,8 +10,8 @@ use lib.Ieee.{Float, nan, inf, fin, binary64, up, down, round, sum, add, sub, mu
 use lib.Ieee.Fits.{up-pos, down-pos, neg-fits, div-fits}
 use lib.Ieee.Back.{whole-unique}
 use lib.Ieee.Scale.{finite}
-use Rattle.arithmetic.specs.Operations.{_⊕_, _⊖_, _⊗_, _⊘_, bits, one, two}
-use Rattle.arithmetic.specs.Exp.{ln2Hi, ln2Lo, reduced}
+use Rattle.arithmetic.specs.Operations.{_⊕_, _⊖_, _⊗_, _⊘_, one, two}
+use Rattle.arithmetic.specs.Exp.{ln2Hi, ln2Lo, P1, P2, P3, P4, P5, reduced}
 use Rattle.arithmetic.specs.Laws.Representable.{round-self}
 use Rattle.arithmetic.specs.Laws.Bounds.{round-to-zero}
 use Rattle.arithmetic.specs.Laws.Sums.{add-is, sum-swap}
@@ -28,10 +28,14 @@ sum-zero true false a c A = rw (lt-ltb 0 a A, sub-zero a)
 sum-zero false true a c A = rw (lt-ltb 0 a A, sub-zero a)
 
 sum-value : (u t : Bool) (m : ℕ) (e : ℤ) → T (fits binary64 (fin t (suc m) e)) → sum binary64 u 0 t (suc m * up e) (down e) ≡ fin t (suc m) e
-sum-value u t m e F = sum-zero u t (suc m * up e) (down e) (mul-pos (zero-lt-suc m) (up-pos e)) ∙ round-self binary64 (fin t (suc m) e) t (suc m * up e) (down e) (down-pos e) F (refl, refl)
+sum-value u t m e F =
+    sum-zero u t (suc m * up e) (down e) (mul-pos (zero-lt-suc m) (up-pos e))
+    ∙ round-self binary64 (fin t (suc m) e) t (suc m * up e) (down e) (down-pos e) F (refl, refl)
 
 zero-plus : (u t : Bool) (m : ℕ) (e : ℤ) → T (fits binary64 (fin t (suc m) e)) → zero-of u ⊕ fin t (suc m) e ≡ fin t (suc m) e
-zero-plus u t m e F = add-is binary64 (zero-of u) (fin t (suc m) e) tt tt ∙ rw (zero-mul (down e), mul-one (suc m * up e), one-mul (down e)) (sum-value u t m e F)
+zero-plus u t m e F =
+    add-is binary64 (zero-of u) (fin t (suc m) e) tt tt
+    ∙ rw (zero-mul (down e), mul-one (suc m * up e), one-mul (down e)) (sum-value u t m e F)
 
 plus-zero : (u t : Bool) (m : ℕ) (e : ℤ) → T (fits binary64 (fin t (suc m) e)) → fin t (suc m) e ⊕ zero-of u ≡ fin t (suc m) e
 plus-zero u t m e F =
@@ -63,7 +67,8 @@ module _ (t : Bool) (m : ℕ) (e : ℤ) (F : T (fits binary64 (fin t (suc m) e))
   unfolding sub neg
   from-zero u = zero-plus u (not t) m e (neg-fits binary64 x F)
 
-from-either : (u v : Bool) (z : Float) → T (fits binary64 z) → (t : Bool) (m : ℕ) (e : ℤ) → T (fits binary64 (fin t (suc m) e)) → zero-of u ⊖ z ⊖ fin t (suc m) e ≡ zero-of v ⊖ z ⊖ fin t (suc m) e
+from-either : (u v : Bool) (z : Float) → T (fits binary64 z) → (t : Bool) (m : ℕ) (e : ℤ) → T (fits binary64 (fin t (suc m) e))
+    → zero-of u ⊖ z ⊖ fin t (suc m) e ≡ zero-of v ⊖ z ⊖ fin t (suc m) e
 unfolding sub neg add
 from-either u v nan G t m e F = refl
 from-either u v (inf s) G t m e F = refl
@@ -73,7 +78,7 @@ from-either u v (fin s zero d) G t m e F =
     rw (a .1, b .1) (from-zero t m e F (a .0) ∙ sym (from-zero t m e F (b .0)))
 from-either u v (fin s (suc n) d) G t m e F = rw (from-zero s n d G u, from-zero s n d G v) refl
 
--- ---- so the k that is 0 may have either sign
+-- ---- so a k of 0 may have either sign
 k-high : (u : Bool) → zero-of u ⊗ ln2Hi ≡ zero-of u
 unfolding mul ofBits
 k-high true = refl
@@ -84,10 +89,11 @@ unfolding mul ofBits
 k-low true = refl
 k-low false = refl
 
+-- the quotient in `reduced`
 quotient : Float → Float
 quotient r =
     let q = r ⊗ r in
-    let c = r ⊖ q ⊗ (bits 0x3FC5_5555_5555_553E ⊕ q ⊗ (bits 0xBF66_C16C_16BE_BD93 ⊕ q ⊗ (bits 0x3F11_566A_AF25_DE2C ⊕ q ⊗ (bits 0xBEBB_BD41_C5D2_6BF1 ⊕ q ⊗ bits 0x3E66_3769_72BE_A4D0)))) in
+    let c = r ⊖ q ⊗ (P1 ⊕ q ⊗ (P2 ⊕ q ⊗ (P3 ⊕ q ⊗ (P4 ⊕ q ⊗ P5)))) in
     (r ⊗ c) ⊘ (two ⊖ c)
 
 quotient-fits : (r : Float) → T (fits binary64 (quotient r))
@@ -113,7 +119,8 @@ of-zero false true false = refl
 of-zero false false true = refl
 of-zero false false false = refl
 
-of-other : (t : Bool) (m : ℕ) (e : ℤ) → T (fits binary64 (fin t (suc m) e)) → (u : Bool) → reduced (fin t (suc m) e) (zero-of u) ≡ one ⊖ ((zero-of u ⊖ quotient (fin t (suc m) e)) ⊖ fin t (suc m) e)
+of-other : (t : Bool) (m : ℕ) (e : ℤ) → T (fits binary64 (fin t (suc m) e)) → (u : Bool)
+    → reduced (fin t (suc m) e) (zero-of u) ≡ one ⊖ ((zero-of u ⊖ quotient (fin t (suc m) e)) ⊖ fin t (suc m) e)
 of-other t m e F u = reduced-is (fin t (suc m) e) (zero-of u) ∙ rw (k-high u, k-low u, less-zero t m e F u, less-zero t m e F u) refl
 
 pub either-zero : (x : Float) → T (fits binary64 x) → T (finite x) → (u v : Bool) → reduced x (zero-of u) ≡ reduced x (zero-of v)

@@ -11,7 +11,10 @@ mod MulAddOperands
 mod SqrtDigits
 mod SqrtPaths
 mod Trunc
+mod MaxMin
+mod Integers
 mod ExpGeneral
 mod LnPaths
 mod ExpZeroSign
+mod ExpPower
 mod ExpFast

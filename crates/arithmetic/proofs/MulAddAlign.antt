@@ -1,35 +1,63 @@
--- The product and the addend on one scale: exactly where the shift is short, and with the lower one jammed where it is long. Assumes nothing.
+-- What `product_exponent` and `align` of `mul_add` give: an exponent of the product, and the product and the addend on one scale, exactly where the
+-- shift is short, and with the lower one jammed where it is long. Assumes nothing.
 use mathlib.Core.Path.{_≡_, refl, sym, ap, _∙_, subst}
 use mathlib.Core.Logic.{_⊎_, inl, inr}
 use mathlib.Core.Bool.{Bool}
 use Prim.Native.Nat.{ℕ, _+_, _-_, _*_, _/_, _%_, _^_, _≤_, _<_, min}
-use native.Mathlib.Nat.{le-refl, le-trans, le-of-eq, one-mul, mul-le-mul, lt-of-lt-of-le, lt-of-le-of-lt, eq-zero-or-pos, zero-mul, mul-assoc, add-mul, mul-pos, mul-lt-mul-of-pos-right, mul-le-mul-right, mod-lt, div-le-self}
+use native.Mathlib.Nat.{le-refl, le-trans, le-of-eq, le-add-left, lt-of-lt-of-le, lt-of-le-of-lt, eq-zero-or-pos, mod-lt, div-le-self}
+use native.Mathlib.Nat.{one-mul, zero-mul, mul-zero, mul-assoc, add-mul, mul-pos, mul-le-mul, mul-le-mul-right, mul-lt-mul-of-pos-right}
 use native.Mathlib.Omega.{arith}
 use lib.Dec.{lit≤, lit<}
 use lib.Pow.{pow-pos, pow-mono, shl-lt, split}
-use lib.Ieee.{binary64, sum}
+use lib.Ieee.{Float, binary64, sum}
 use Rattle.arithmetic.specs.declared.pair.Pair.{Pair}
 use Rattle.arithmetic.specs.Internal.Pair.{val, jammed}
 use Rattle.arithmetic.specs.declared.mul_add.Parts.{Parts}
-use Rattle.arithmetic.specs.Internal.MulAdd.{ProductExponent, Operands, Aligned}
-use Rattle.arithmetic.specs.Laws.Numbers.{lt-or-le, pow-split}
+use Rattle.arithmetic.specs.Internal.MulAdd.{Decoded, ProductExponent, Operands, Aligned}
+use Rattle.arithmetic.specs.Laws.Numbers.{lt-or-le, pow-split, mul-lt-pow}
 use Rattle.arithmetic.proofs.SumJammed.{jam-first, jam-second}
 use Rattle.arithmetic.proofs.Pairs.{flat}
 
--- ---- the product's exponent
-pub product-exponent-zero : (u v : Parts) → u .m * v .m ≡ 0 → ProductExponent u v 0
-product-exponent-zero u v z = record {
-  value = rw z (sym (zero-mul (2 ^ (u .j + v .j))));
+-- ---- the product's exponent: 0 where a factor is 0, else the sum
+pub product-exponent-zero : (u v : Parts) → (u .m ≡ 0) ⊎ (v .m ≡ 0) → ProductExponent u v 0
+product-exponent-zero u v h = record {
+  value = rw (none h) (sym (zero-mul (2 ^ (u .j + v .j))));
   low = lit< tt;
-  lead = λ h. omega arith;
+  lead = λ k. omega arith;
 }
+  where
+    none : (u .m ≡ 0) ⊎ (v .m ≡ 0) → u .m * v .m ≡ 0
+    none (inl e) = ap (λ (x : ℕ). x * v .m) e ∙ zero-mul (v .m)
+    none (inr e) = ap (λ (x : ℕ). u .m * x) e ∙ mul-zero (u .m)
 
-pub product-exponent-sum : (u v : Parts) → u .j < 2046 → v .j < 2046 → (0 < u .j → 2 ^ 52 ≤ u .m) → (0 < v .j → 2 ^ 52 ≤ v .m) → (u .m ≡ 0 → ⊥) → (v .m ≡ 0 → ⊥) → ProductExponent u v (u .j + v .j)
+pub product-exponent-sum : (u v : Parts) → u .j < 2046 → v .j < 2046 → (0 < u .j → 2 ^ 52 ≤ u .m) → (0 < v .j → 2 ^ 52 ≤ v .m)
+    → (u .m ≡ 0 → ⊥) → (v .m ≡ 0 → ⊥) → ProductExponent u v (u .j + v .j)
 product-exponent-sum u v a b hu hv U W = record { value = refl; low = omega arith; lead = lead (lt-or-le 0 (u .j)) }
   where
     lead : (0 < u .j) ⊎ (u .j ≤ 0) → 1074 < u .j + v .j → 2 ^ 52 ≤ u .m * v .m
     lead (inl p) h = let l : 1 ≤ v .m = omega arith in mul-le-mul (hu p) l
-    lead (inr p) h = let l : 1 ≤ u .m = omega arith in le-trans (hv (omega arith)) (le-trans (le-of-eq (sym (one-mul (v .m)))) (mul-le-mul-right (v .m) l))
+    lead (inr p) h =
+        let l : 1 ≤ u .m = omega arith in
+        le-trans (hv (omega arith)) (le-trans (le-of-eq (sym (one-mul (v .m)))) (mul-le-mul-right (v .m) l))
+
+-- ---- the decoded operands are as `align` asks
+add-low : (j : ℕ) → j < 2046 → j + 1074 < 4096
+add-low j h = omega arith
+
+above-low : (j : ℕ) → 1074 < j + 1074 → 0 < j
+above-low j h = omega arith
+
+pub operands : {x a b : Float} (u v w : Parts) (p : Pair) (e : ℕ) → Decoded x u → Decoded a v → Decoded b w
+    → val p ≡ u .m * v .m → ProductExponent u v e → Operands (val p) e (w .m) (w .j + 1074)
+operands u v w p e X A B P E = record {
+  product-small = subst (λ (n : ℕ). n < 2 ^ 106) (sym P) (mul-lt-pow 53 53 (X .small) (A .small));
+  addend-small = B .small;
+  product-low = E .low;
+  addend-low = add-low (w .j) (B .low);
+  addend-least = le-add-left 1074 (w .j);
+  product-lead = λ h. subst (λ (n : ℕ). 2 ^ 52 ≤ n) (sym P) (E .lead h);
+  addend-lead = λ h. B .lead (above-low (w .j) h);
+}
 
 -- ---- jamming
 min-scale : (a x : ℕ) → 0 < x → min 1 (a * x) ≡ min 1 a
@@ -39,7 +67,7 @@ min-scale a x X = go (eq-zero-or-pos a)
     go (inl p) = let z = ap (λ (y : ℕ). y * x) p ∙ zero-mul x in omega arith
     go (inr p) = let z = mul-pos p X in omega arith
 
--- n * 2 ^ x and what it is jammed to at the scale 2 ^ e, each as a multiple of 2 ^ (e + 1) and a rest
+-- n * 2 ^ x, and n jammed at the scale 2 ^ e, each as a multiple of 2 ^ (e + 1) and a rest
 module _ (n d x e : ℕ) (E : d + x ≡ e) where
   abbrev q : ℕ
   q = n / 2 ^ (d + 1)
@@ -50,21 +78,23 @@ module _ (n d x e : ℕ) (E : d + x ≡ e) where
   scale : 2 ^ (d + 1) * 2 ^ x ≡ 2 ^ (e + 1)
   scale = pow-split (d + 1) x (e + 1) (omega arith)
 
-  exact : n * 2 ^ x ≡ q * 2 ^ (e + 1) + rest * 2 ^ x
-  exact =
+  exact-parts : n * 2 ^ x ≡ q * 2 ^ (e + 1) + rest * 2 ^ x
+  exact-parts =
       ap (λ (y : ℕ). y * 2 ^ x) (sym (split n (d + 1))) ∙ add-mul (q * 2 ^ (d + 1)) rest (2 ^ x)
       ∙ ap (λ (y : ℕ). y + rest * 2 ^ x) (mul-assoc q (2 ^ (d + 1)) (2 ^ x) ∙ ap (λ (y : ℕ). q * y) scale)
 
-  cut : jammed n d * 2 ^ e ≡ q * 2 ^ (e + 1) + min 1 rest * 2 ^ e
-  cut =
+  jammed-parts : jammed n d * 2 ^ e ≡ q * 2 ^ (e + 1) + min 1 rest * 2 ^ e
+  jammed-parts =
       add-mul (q * 2) (min 1 rest) (2 ^ e)
       ∙ ap (λ (y : ℕ). y + min 1 rest * 2 ^ e) (mul-assoc q 2 (2 ^ e) ∙ ap (λ (y : ℕ). q * y) (pow-split 1 e (e + 1) (omega arith)))
 
-  exact-lt : rest * 2 ^ x < 2 ^ (e + 1)
-  exact-lt = lt-of-lt-of-le (mul-lt-mul-of-pos-right (mod-lt n (pow-pos (d + 1))) (pow-pos x)) (le-of-eq scale)
+  exact-rest-lt : rest * 2 ^ x < 2 ^ (e + 1)
+  exact-rest-lt = lt-of-lt-of-le (mul-lt-mul-of-pos-right (mod-lt n (pow-pos (d + 1))) (pow-pos x)) (le-of-eq scale)
 
-  cut-lt : min 1 rest * 2 ^ e < 2 ^ (e + 1)
-  cut-lt = lt-of-le-of-lt (mul-le-mul-right (2 ^ e) (one rest)) (lt-of-lt-of-le (twice (2 ^ e) (pow-pos e)) (le-of-eq (pow-split e 1 (e + 1) refl)))
+  jammed-rest-lt : min 1 rest * 2 ^ e < 2 ^ (e + 1)
+  jammed-rest-lt =
+      lt-of-le-of-lt (mul-le-mul-right (2 ^ e) (one rest))
+      (lt-of-lt-of-le (twice (2 ^ e) (pow-pos e)) (le-of-eq (pow-split e 1 (e + 1) refl)))
     where
       one : (y : ℕ) → min 1 y ≤ 1
       one y = omega arith
@@ -78,16 +108,17 @@ module _ (n d x e : ℕ) (E : d + x ≡ e) where
       again : (y : ℕ) → min 1 (min 1 y) ≡ min 1 y
       again y = omega arith
 
-  -- the other term is M * 2 ^ (e + 1)
+  -- the other term, a or b, is M * 2 ^ (e + 1); the sum with the jammed term is the same, whichever comes first
   module _ (a b M : ℕ) (wide : (e ≤ 1072) ⊎ (q + 2 ^ 54 < M)) (A : a ≡ M * 2 ^ (e + 1)) (B : b ≡ M * 2 ^ (e + 1)) (s t : Bool) where
     first : sum binary64 s (n * 2 ^ x) t a (2 ^ 2148) ≡ sum binary64 s (jammed n d * 2 ^ e) t b (2 ^ 2148)
-    first = rw (exact, cut, A, B) (jam-first e M q (rest * 2 ^ x) (min 1 rest * 2 ^ e) exact-lt cut-lt alike wide s t)
+    first = rw (exact-parts, jammed-parts, A, B) (jam-first e M q (rest * 2 ^ x) (min 1 rest * 2 ^ e) exact-rest-lt jammed-rest-lt alike wide s t)
 
     second : sum binary64 s a t (n * 2 ^ x) (2 ^ 2148) ≡ sum binary64 s b t (jammed n d * 2 ^ e) (2 ^ 2148)
-    second = rw (exact, cut, A, B) (jam-second e M q (rest * 2 ^ x) (min 1 rest * 2 ^ e) exact-lt cut-lt alike wide s t)
+    second = rw (exact-parts, jammed-parts, A, B) (jam-second e M q (rest * 2 ^ x) (min 1 rest * 2 ^ e) exact-rest-lt jammed-rest-lt alike wide s t)
 
 jammed-small : (n d : ℕ) → n < 2 ^ 106 → jammed n d < 2 ^ 127
-jammed-small n d h = lt-of-lt-of-le (go (n / 2 ^ (d + 1)) (n % 2 ^ (d + 1)) (div-le-self n (2 ^ (d + 1)))) (lit≤ {m = 2 ^ 108} {n = 2 ^ 127} tt)
+jammed-small n d h =
+    lt-of-lt-of-le (go (n / 2 ^ (d + 1)) (n % 2 ^ (d + 1)) (div-le-self n (2 ^ (d + 1)))) (lit≤ {m = 2 ^ 108} {n = 2 ^ 127} tt)
   where
     go : (q r : ℕ) → q ≤ n → q * 2 + min 1 r < 324518553658426726783156020576256
     go q r a = omega arith
@@ -97,27 +128,41 @@ shifted : (n d x e : ℕ) → d + x ≡ e → n * 2 ^ e ≡ n * 2 ^ d * 2 ^ x
 shifted n d x e h = ap (λ (y : ℕ). n * y) (sym (pow-split d x e h)) ∙ sym (mul-assoc n (2 ^ d) (2 ^ x))
 
 -- n * 2 ^ d, for an n of j digits and a d of at most k
-pub shift-lt : (n j d k : ℕ) → n < 2 ^ j → d ≤ k → n * 2 ^ d < 2 ^ (j + k)
+shift-lt : (n j d k : ℕ) → n < 2 ^ j → d ≤ k → n * 2 ^ d < 2 ^ (j + k)
 shift-lt n j d k h l = lt-of-lt-of-le (shl-lt j d h) (pow-mono {j = j + k} (omega arith))
 
 -- ---- the four ways to one scale
-module _ (p : Pair) (ep m em : ℕ) (o : Operands (val p) ep m em) where
+module _ (p : Pair) {ep m em : ℕ} (o : Operands (val p) ep m em) where
+  -- within a pair: the product shifted by 20 at most, and the addend by 64
+  pub product-fits : (d : ℕ) → d ≤ 20 → val p * 2 ^ d < 2 ^ 128
+  product-fits d h = lt-of-lt-of-le (shift-lt (val p) 106 d 20 (o .product-small) h) (lit≤ tt)
+
+  pub addend-fits : em - ep ≤ 64 → (0 * 2 ^ 64 + m) * 2 ^ (em - ep) < 2 ^ 128
+  addend-fits h =
+      subst (λ (x : ℕ). x * 2 ^ (em - ep) < 2 ^ 128) (sym (flat m))
+      (lt-of-lt-of-le (shift-lt m 53 (em - ep) 64 (o .addend-small) h) (lit≤ tt))
+
   -- the addend lies above, and is shifted up
-  pub near-above : ep ≤ em → em - ep ≤ 64 → (b : Pair) → val b ≡ (0 * 2 ^ 64 + m) * 2 ^ (em - ep) → Aligned (val p) ep m em (record { a = p; b = b; e = ep })
+  pub near-above : ep ≤ em → em - ep ≤ 64 → (b : Pair) → val b ≡ (0 * 2 ^ 64 + m) * 2 ^ (em - ep)
+      → Aligned (val p) ep m em (record { a = p; b = b; e = ep })
   near-above l h b v =
       let w : val b ≡ m * 2 ^ (em - ep) = v ∙ ap (λ (x : ℕ). x * 2 ^ (em - ep)) (flat m) in
       record {
-        same = λ s t. ap (λ (x : ℕ). sum binary64 s (val p * 2 ^ ep) t x (2 ^ 2148)) (shifted m (em - ep) ep em (omega arith) ∙ ap (λ (x : ℕ). x * 2 ^ ep) (sym w));
+        same = λ s t.
+            ap (λ (x : ℕ). sum binary64 s (val p * 2 ^ ep) t x (2 ^ 2148))
+            (shifted m (em - ep) ep em (omega arith) ∙ ap (λ (x : ℕ). x * 2 ^ ep) (sym w));
         first-small = lt-of-lt-of-le (o .product-small) (lit≤ tt);
         second-small = subst (λ (x : ℕ). x < 2 ^ 127) (sym w) (lt-of-lt-of-le (shift-lt m 53 (em - ep) 64 (o .addend-small) h) (lit≤ tt));
         low = o .product-low;
       }
 
   -- it lies far above, and the product is jammed
-  pub far-above : ep ≤ em → 64 < em - ep → (a : Pair) → val a ≡ jammed (val p) (em - ep - 64) → Aligned (val p) ep m em (record { a = a; b = record { hi = m; lo = 0 }; e = em - 64 })
+  pub far-above : ep ≤ em → 64 < em - ep → (a : Pair) → val a ≡ jammed (val p) (em - ep - 64)
+      → Aligned (val p) ep m em (record { a = a; b = record { hi = m; lo = 0 }; e = em - 64 })
   far-above l h a v = record {
     same = λ s t. rw v
-        (first (val p) (em - ep - 64) ep (em - 64) (omega arith) (m * 2 ^ em) ((m * 2 ^ 64 + 0) * 2 ^ (em - 64)) (m * 2 ^ 63) (go (lt-or-le em 1137)) half
+        (first (val p) (em - ep - 64) ep (em - 64) (omega arith)
+        (m * 2 ^ em) ((m * 2 ^ 64 + 0) * 2 ^ (em - 64)) (m * 2 ^ 63) (go (lt-or-le em 1137)) half
         (ap (λ (y : ℕ). y * 2 ^ (em - 64)) (none (m * 2 ^ 64)) ∙ sym (shifted m 64 (em - 64) em (omega arith)) ∙ half) s t);
     first-small = subst (λ (x : ℕ). x < 2 ^ 127) (sym v) (jammed-small (val p) (em - ep - 64) (o .product-small));
     second-small = lt-of-lt-of-le (small (o .addend-small)) (lit≤ tt);
@@ -138,12 +183,17 @@ module _ (p : Pair) (ep m em : ℕ) (o : Operands (val p) ep m em) where
 
       go : (em < 1137) ⊎ (1137 ≤ em) → (em - 64 ≤ 1072) ⊎ (val p / 2 ^ (em - ep - 64 + 1) + 2 ^ 54 < m * 2 ^ 63)
       go (inl a) = inl (omega arith)
-      go (inr a) = inr (wide (val p / 2 ^ (em - ep - 64 + 1)) (val p) (div-le-self (val p) (2 ^ (em - ep - 64 + 1))) (o .product-small) (o .addend-lead (omega arith)))
+      go (inr a) =
+          let d = em - ep - 64 + 1 in
+          inr (wide (val p / 2 ^ d) (val p) (div-le-self (val p) (2 ^ d)) (o .product-small) (o .addend-lead (omega arith)))
 
   -- the addend lies below, and the product is shifted up
-  pub near-below : em < ep → ep - em ≤ 20 → (a : Pair) → val a ≡ val p * 2 ^ (ep - em) → Aligned (val p) ep m em (record { a = a; b = record { hi = 0; lo = m }; e = em })
+  pub near-below : em < ep → ep - em ≤ 20 → (a : Pair) → val a ≡ val p * 2 ^ (ep - em)
+      → Aligned (val p) ep m em (record { a = a; b = record { hi = 0; lo = m }; e = em })
   near-below l h a v = record {
-    same = λ s t. ap (λ (x : ℕ). sum binary64 s x t (m * 2 ^ em) (2 ^ 2148)) (shifted (val p) (ep - em) em ep (omega arith) ∙ ap (λ (x : ℕ). x * 2 ^ em) (sym v))
+    same = λ s t.
+        ap (λ (x : ℕ). sum binary64 s x t (m * 2 ^ em) (2 ^ 2148))
+        (shifted (val p) (ep - em) em ep (omega arith) ∙ ap (λ (x : ℕ). x * 2 ^ em) (sym v))
         ∙ ap (λ (x : ℕ). sum binary64 s (val a * 2 ^ em) t (x * 2 ^ em) (2 ^ 2148)) (sym (flat m));
     first-small = subst (λ (x : ℕ). x < 2 ^ 127) (sym v) (lt-of-lt-of-le (shift-lt (val p) 106 (ep - em) 20 (o .product-small) h) (lit≤ tt));
     second-small = subst (λ (x : ℕ). x < 2 ^ 127) (sym (flat m)) (lt-of-lt-of-le (o .addend-small) (lit≤ tt));
@@ -151,14 +201,16 @@ module _ (p : Pair) (ep m em : ℕ) (o : Operands (val p) ep m em) where
   }
 
   -- it lies far below, and is jammed
-  pub far-below : em < ep → 20 < ep - em → (a b : Pair) → val a ≡ val p * 2 ^ 20 → val b ≡ jammed (0 * 2 ^ 64 + m) (ep - em - 20) → Aligned (val p) ep m em (record { a = a; b = b; e = ep - 20 })
+  pub far-below : em < ep → 20 < ep - em → (a b : Pair) → val a ≡ val p * 2 ^ 20 → val b ≡ jammed (0 * 2 ^ 64 + m) (ep - em - 20)
+      → Aligned (val p) ep m em (record { a = a; b = b; e = ep - 20 })
   far-below l h a b v w =
       let z : val b ≡ jammed m (ep - em - 20) = w ∙ ap (λ (x : ℕ). jammed x (ep - em - 20)) (flat m) in
       let high : 1074 < ep = omega (arith, o .addend-least) in
       record {
         same = λ s t. rw (v, z)
             (second m (ep - em - 20) em (ep - 20) (omega arith) (val p * 2 ^ ep) (val p * 2 ^ 20 * 2 ^ (ep - 20)) (val p * 2 ^ 19)
-            (inr (wide (m / 2 ^ (ep - em - 20 + 1)) (val p) (div-le-self m (2 ^ (ep - em - 20 + 1))) (o .addend-small) (o .product-lead high))) half (sym (shifted (val p) 20 (ep - 20) ep (omega arith)) ∙ half) s t);
+            (inr (wide (m / 2 ^ (ep - em - 20 + 1)) (val p) (div-le-self m (2 ^ (ep - em - 20 + 1))) (o .addend-small) (o .product-lead high)))
+            half (sym (shifted (val p) 20 (ep - 20) ep (omega arith)) ∙ half) s t);
         first-small = subst (λ (x : ℕ). x < 2 ^ 127) (sym v) (lt-of-lt-of-le (shift-lt (val p) 106 20 20 (o .product-small) (le-refl 20)) (lit≤ tt));
         second-small = subst (λ (x : ℕ). x < 2 ^ 127) (sym z) (jammed-small m (ep - em - 20) (lt-of-lt-of-le (o .addend-small) (lit≤ tt)));
         low = omega (arith, o .product-low);

@@ -1,4 +1,4 @@
--- A finite value by the fields of its bit pattern, as `decode` takes them. Assumes nothing.
+-- What `decode` of `mul_add` gives: a finite value by the fields of its bit pattern. Assumes nothing.
 use mathlib.Core.Path.{_≡_, refl, sym, _∙_, subst}
 use mathlib.Core.Bool.{Bool}
 use Prim.Native.Nat.{ℕ, suc, _+_, _-_, _*_, _/_, _^_, _<_}
@@ -27,32 +27,35 @@ module _ (x : Float) (F : T (fits binary64 x)) (h : T (finite x)) where
   abbrev t : ℕ
   t = bitAnd b 0xf_ffff_ffff_ffff
 
-  is : (y : ℕ) → f ≡ y → ofFields binary64 s y t ≡ x
-  is y e = rw (← e, and-mask (b / 2 ^ 52) 11, and-mask b 52, ← field b 11 52) (sym (ofBits-is b) ∙ ofBits-toBits binary64 x F)
+  read-back : (y : ℕ) → f ≡ y → ofFields binary64 s y t ≡ x
+  read-back y e = rw (← e, and-mask (b / 2 ^ 52) 11, and-mask b 52, ← field b 11 52) (sym (ofBits-is b) ∙ ofBits-toBits binary64 x F)
 
-  pub field-lt : f < 2047
+  field-lt : f < 2047
   field-lt =
       let a = mask-lt (b / 2 ^ 52) 11 in
-      let n : f ≡ 2047 → ⊥ = finite-field s f t (subst (λ (v : Float). T (finite v)) (sym (is f refl)) h) in
+      let n : f ≡ 2047 → ⊥ = finite-field s f t (subst (λ (v : Float). T (finite v)) (sym (read-back f refl)) h) in
       omega arith
 
-  pub at-zero : f ≡ 0 → HasValue x s (t * 2 ^ 0) (2 ^ 1074)
-  at-zero e = subst (λ (v : Float). HasValue v s (t * 2 ^ 0) (2 ^ 1074)) (is 0 e) (read-zero s t)
+  -- of the field 0, which a zero has too
+  pub value-subnormal : f ≡ 0 → HasValue x s (t * 2 ^ 0) (2 ^ 1074)
+  value-subnormal e = subst (λ (v : Float). HasValue v s (t * 2 ^ 0) (2 ^ 1074)) (read-back 0 e) (read-zero s t)
 
-  pub at-more : (j : ℕ) → f ≡ suc j → HasValue x s ((2 ^ 52 + t) * 2 ^ j) (2 ^ 1074)
-  at-more j e = subst (λ (v : Float). HasValue v s ((2 ^ 52 + t) * 2 ^ j) (2 ^ 1074)) (is (suc j) e) (read-more s j t (subst (λ (y : ℕ). y < 2047) e field-lt))
+  pub value-normal : (j : ℕ) → f ≡ suc j → HasValue x s ((2 ^ 52 + t) * 2 ^ j) (2 ^ 1074)
+  value-normal j e =
+      subst (λ (v : Float). HasValue v s ((2 ^ 52 + t) * 2 ^ j) (2 ^ 1074)) (read-back (suc j) e)
+      (read-more s j t (subst (λ (y : ℕ). y < 2047) e field-lt))
 
-  pub decoded-zero : f ≡ 0 → Decoded x (record { negative = s; m = t; j = 0 })
-  decoded-zero e =
+  pub decoded-subnormal : f ≡ 0 → Decoded x (record { negative = s; m = t; j = 0 })
+  decoded-subnormal e =
       let a = mask-lt b 52 in
-      record { value = at-zero e; small = omega arith; low = lit< tt; lead = λ h. absurd (lt-irrefl 0 h) }
+      record { value = value-subnormal e; small = omega arith; low = lit< tt; lead = λ h. absurd (lt-irrefl 0 h) }
 
-  pub decoded-more : (f ≡ 0 → ⊥) → Decoded x (record { negative = s; m = t + 2 ^ 52; j = f - 1 })
-  decoded-more n =
+  pub decoded-normal : (f ≡ 0 → ⊥) → Decoded x (record { negative = s; m = t + 2 ^ 52; j = f - 1 })
+  decoded-normal n =
       let a = mask-lt b 52 in
       let l = field-lt in
       record {
-        value = subst (λ (m : ℕ). HasValue x s (m * 2 ^ (f - 1)) (2 ^ 1074)) (add-comm (2 ^ 52) t) (at-more (f - 1) (omega arith));
+        value = subst (λ (m : ℕ). HasValue x s (m * 2 ^ (f - 1)) (2 ^ 1074)) (add-comm (2 ^ 52) t) (value-normal (f - 1) (omega arith));
         small = omega arith;
         low = omega arith;
         lead = λ h. omega arith;

@@ -1,4 +1,4 @@
--- `mulAdd` by the kinds of its operands. Assumes nothing.
+-- `mulAdd` by the kinds of its operands, as `mul_add` tells them apart, and by the parts that `decode` gives of finite ones. Assumes nothing.
 use mathlib.Core.Path.{_≡_, refl, sym, ap, _∙_}
 use mathlib.Core.Bool.{Bool, true, false, cond, true≢false, false≢true}
 use Prim.Native.Nat.{ℕ, _+_, _*_, _^_}
@@ -9,11 +9,14 @@ use lib.Ieee.{Float, nan, inf, fin, binary64, up, down, unlike, add, mul, sum}
 use lib.Ieee.Fits.{down-pos}
 use lib.Ieee.Exact.{HasValue}
 use lib.Ieee.Scale.{finite}
+use Rattle.arithmetic.specs.declared.pair.Pair.{Pair}
+use Rattle.arithmetic.specs.declared.mul_add.Parts.{Parts}
+use Rattle.arithmetic.specs.Internal.Pair.{val}
+use Rattle.arithmetic.specs.Internal.MulAdd.{Decoded, ProductExponent}
 use Rattle.arithmetic.specs.MulAdd.{mulAdd, infinityPlus}
 use Rattle.arithmetic.specs.Laws.Sums.{sum-same}
 
--- ---- where one is no number or an infinity
-
+-- ---- where one is a NaN or an infinity
 infinityPlus-is : (s : Bool) (b : Float) → add binary64 (inf s) b ≡ infinityPlus s b
 unfolding add infinityPlus
 infinityPlus-is s nan = refl
@@ -51,7 +54,6 @@ third-special (fin s m e) (fin t n d) (inf u) h k l = refl
 third-special (fin s m e) (fin t n d) (fin u k' g) h k l = absurd (true≢false l)
 
 -- ---- three finite values, in units of 1 / z
-
 product-cross : (p r h z x a d f : ℕ) → p * z ≡ x * d → r * z ≡ a * f → p * r * h * (z * z) ≡ x * a * (d * f * h)
 product-cross p r h z x a d f P R =
     let l : p * r * h * (z * z) ≡ p * z * (r * z) * h = simp (mul-assoc, mul-comm, mul-left-comm) in
@@ -65,7 +67,8 @@ addend-cross k h z b d f K =
     l ∙ ap (λ (y : ℕ). y * z * (d * f)) K ∙ m
 
 -- with the values' signs s t u and magnitudes x, a, b
-in-units : (X A B : Float) (s t u : Bool) (x a b : ℕ) → HasValue X s x (2 ^ 1074) → HasValue A t a (2 ^ 1074) → HasValue B u b (2 ^ 1074) → mulAdd X A B ≡ sum binary64 (unlike s t) (x * a) u (b * 2 ^ 1074) (2 ^ 2148)
+in-units : (X A B : Float) (s t u : Bool) (x a b : ℕ) → HasValue X s x (2 ^ 1074) → HasValue A t a (2 ^ 1074) → HasValue B u b (2 ^ 1074)
+    → mulAdd X A B ≡ sum binary64 (unlike s t) (x * a) u (b * 2 ^ 1074) (2 ^ 2148)
 unfolding mulAdd
 in-units nan A B s t u x a b p q r = absurd p
 in-units (inf s') A B s t u x a b p q r = absurd p
@@ -74,14 +77,26 @@ in-units (fin s' m e) (inf t') B s t u x a b p q r = absurd q
 in-units (fin s' m e) (fin t' n d) nan s t u x a b p q r = absurd r
 in-units (fin s' m e) (fin t' n d) (inf u') s t u x a b p q r = absurd r
 in-units (fin s' m e) (fin t' n d) (fin u' k g) s t u x a b p q r =
-    sum-same binary64 (unlike s' t') u' (x * a) (b * 2 ^ 1074) (2 ^ 2148) (m * up e * (n * up d) * down g) (k * up g * (down e * down d)) (down e * down d * down g) (pow-pos 2148) (mul-pos (mul-pos (down-pos e) (down-pos d)) (down-pos g))
+    sum-same binary64 (unlike s' t') u' (x * a) (b * 2 ^ 1074) (2 ^ 2148)
+    (m * up e * (n * up d) * down g) (k * up g * (down e * down d)) (down e * down d * down g)
+    (pow-pos 2148) (mul-pos (mul-pos (down-pos e) (down-pos d)) (down-pos g))
     (product-cross (m * up e) (n * up d) (down g) (2 ^ 1074) x a (down e) (down d) (p .1) (q .1))
     (addend-cross (k * up g) (down g) (2 ^ 1074) b (down e) (down d) (r .1))
     ∙ rw (p .0, q .0, r .0)
 
-pub in-parts : (X A B : Float) (s t u : Bool) (xm xj am aj bm bj : ℕ) → HasValue X s (xm * 2 ^ xj) (2 ^ 1074) → HasValue A t (am * 2 ^ aj) (2 ^ 1074) → HasValue B u (bm * 2 ^ bj) (2 ^ 1074)
-    → mulAdd X A B ≡ sum binary64 (unlike s t) (xm * am * 2 ^ (xj + aj)) u (bm * 2 ^ (bj + 1074)) (2 ^ 2148)
-in-parts X A B s t u xm xj am aj bm bj p q r =
-    in-units X A B s t u (xm * 2 ^ xj) (am * 2 ^ aj) (bm * 2 ^ bj) p q r
-    ∙ ap (λ (y : ℕ). sum binary64 (unlike s t) y u (bm * 2 ^ bj * 2 ^ 1074) (2 ^ 2148)) (mul-mul-mul-comm xm (2 ^ xj) am (2 ^ aj) ∙ ap (λ (y : ℕ). xm * am * y) (sym (pow-add 2 xj aj)))
-    ∙ ap (λ (y : ℕ). sum binary64 (unlike s t) (xm * am * 2 ^ (xj + aj)) u y (2 ^ 2148)) (mul-assoc bm (2 ^ bj) (2 ^ 1074) ∙ ap (λ (y : ℕ). bm * y) (sym (pow-add 2 bj 1074)))
+-- with their parts, and with a product p and its exponent e
+pub mul-add-of-parts : {X A B : Float} (x a b : Parts) (p : Pair) (e : ℕ) → Decoded X x → Decoded A a → Decoded B b
+    → val p ≡ x .m * a .m → ProductExponent x a e
+    → sum binary64 (unlike (x .negative) (a .negative)) (val p * 2 ^ e) (b .negative) (b .m * 2 ^ (b .j + 1074)) (2 ^ 2148) ≡ mulAdd X A B
+mul-add-of-parts {X} {A} {B} x a b p e hx ha hb P E =
+    let s = unlike (x .negative) (a .negative) in
+    let t = b .negative in
+    let product : x .m * 2 ^ x .j * (a .m * 2 ^ a .j) ≡ val p * 2 ^ e =
+    mul-mul-mul-comm (x .m) (2 ^ x .j) (a .m) (2 ^ a .j)
+    ∙ ap (λ (y : ℕ). x .m * a .m * y) (sym (pow-add 2 (x .j) (a .j)))
+    ∙ sym (ap (λ (y : ℕ). y * 2 ^ e) P ∙ E .value) in
+    let addend : b .m * 2 ^ b .j * 2 ^ 1074 ≡ b .m * 2 ^ (b .j + 1074) =
+    mul-assoc (b .m) (2 ^ b .j) (2 ^ 1074) ∙ ap (λ (y : ℕ). b .m * y) (sym (pow-add 2 (b .j) 1074)) in
+    sym (in-units X A B (x .negative) (a .negative) t (x .m * 2 ^ x .j) (a .m * 2 ^ a .j) (b .m * 2 ^ b .j) (hx .value) (ha .value) (hb .value)
+    ∙ ap (λ (y : ℕ). sum binary64 s y t (b .m * 2 ^ b .j * 2 ^ 1074) (2 ^ 2148)) product
+    ∙ ap (λ (y : ℕ). sum binary64 s (val p * 2 ^ e) t y (2 ^ 2148)) addend)

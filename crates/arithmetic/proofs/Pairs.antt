@@ -1,13 +1,16 @@
--- Numbers in two halves: hi * K + lo, with lo below K. K is a variable here and 2 ^ 64 where a law is cited, since `omega` stops at numbers of 39 digits.
--- Assumes nothing.
+-- What the functions of `pair` give, on numbers in two halves: hi * K + lo, with lo below K. K is a variable in most laws and 2 ^ 64 where they are cited,
+-- since `omega` stops at numbers of 39 digits. Assumes nothing.
 use mathlib.Core.Path.{_≡_, refl, sym, ap, _∙_, subst}
 use mathlib.Core.Logic.{_⊎_, inl, inr}
 use Prim.Native.Nat.{ℕ, suc, _+_, _-_, _*_, _/_, _%_, _^_, _≤_, _<_}
-use native.Mathlib.Nat.{le-trans, le-add-right, lt-of-lt-of-le, eq-zero-or-pos, le-of-eq, div-mul-le-self, le-of-lt, lt-of-le-of-lt, mod-lt, mod-eq-of-lt, mod-eq-sub-mod, add-mul, mul-add, one-mul, mul-one, mul-comm, mul-assoc, mul-left-comm, mul-right-comm, mul-le-mul-right, mul-le-mul-left, mul-pos, lt-of-mul-lt-mul-right, div-add-mod', div-div-eq-div-mul, div-lt-iff-lt-mul, mul-div-cancel, mul-mod-left}
+use native.Mathlib.Nat.{le-trans, le-add-right, le-of-eq, le-of-lt, lt-of-lt-of-le, lt-of-le-of-lt, eq-zero-or-pos}
+use native.Mathlib.Nat.{add-mul, mul-add, zero-mul, one-mul, mul-one, mul-comm, mul-assoc, mul-left-comm, mul-right-comm}
+use native.Mathlib.Nat.{mul-le-mul-right, mul-le-mul-left, mul-pos, lt-of-mul-lt-mul-right, mod-lt, mod-eq-of-lt, mod-eq-sub-mod, mul-mod-left}
+use native.Mathlib.Nat.{div-one, div-eq-of-lt, div-mul-le-self, div-add-mod', div-div-eq-div-mul, div-lt-iff-lt-mul, mul-div-cancel}
 use native.Mathlib.Numerals.{add-one}
 use native.Mathlib.Omega.{arith}
-use lib.Dec.{ltb}
-use lib.Arith.{digits-lt, digits-div, mod-mul}
+use lib.Dec.{ltb, lit≤}
+use lib.Arith.{le-zero, digits-lt, digits-div, mod-mul}
 use lib.Pow.{pow-add, pow-pos, pow-mono, shr-lt, split}
 use lib.Bits.{bitAnd, and-mask, mask-lt}
 use lib.Count.{leadingZeros, leading-of-zero, leading-top}
@@ -22,8 +25,20 @@ use Rattle.arithmetic.specs.Laws.Numbers.{same-ltb, lt-or-le, pow-split,
 next : (n K : ℕ) → (n + 1) * K ≡ n * K + K
 next n K = let a = add-mul n 1 K in let b = one-mul K in omega arith
 
+-- with an upper half of 0
 pub flat : (n : ℕ) → 0 * 18446744073709551616 + n ≡ n
 flat n = omega arith
+
+-- ---- at most 128 digits
+pub val-lt : (v : Pair) → v .hi < 2 ^ 64 → v .lo < 2 ^ 64 → val v < 2 ^ 128
+val-lt v H L = digits-lt {q = v .hi} {m = 2 ^ 64} {r = v .lo} {c = 2 ^ 64} H L
+
+pub val-size : (v : Pair) → v .hi < 2 ^ 64 → v .lo < 2 ^ 64 → size (val v) ≤ 128
+val-size v H L = size-le (val v) 128 (val-lt v H L)
+
+-- ---- order
+upper-less : (K ah al bh bl : ℕ) → al < K → ah < bh → ah * K + al < bh * K + bl
+upper-less K ah al bh bl A h = let m : ah + 1 ≤ bh = omega arith in let q = mul-le-mul-right K m in let n = next ah K in omega arith
 
 -- ---- sums and differences on one half
 -- x wraps once
@@ -33,8 +48,8 @@ wrapped K x a b =
     omega arith
 
 -- r + b wraps where it comes out below b
-back-plain : (K r a b : ℕ) → r < K → b < K → (r + b) % K ≡ a → b ≤ a → r + b ≡ a
-back-plain K r a b R B e h = go (lt-or-le (r + b) K)
+back-no-borrow : (K r a b : ℕ) → r < K → b < K → (r + b) % K ≡ a → b ≤ a → r + b ≡ a
+back-no-borrow K r a b R B e h = go (lt-or-le (r + b) K)
   where
     go : (r + b < K) ⊎ (K ≤ r + b) → r + b ≡ a
     go (inl l) = sym (mod-eq-of-lt l) ∙ e
@@ -52,17 +67,18 @@ module _ (K ah al bh bl : ℕ) (A : al < K) (B : bl < K) (h : ah * K + al + (bh 
   upper : (n : ℕ) → n * K ≤ ah * K + al + (bh * K + bl) → n < K
   upper n l = lt-of-mul-lt-mul-right K (lt-of-le-of-lt l h)
 
-  pub add-carry : (lo hi : ℕ) → lo ≡ (al + bl) % K → hi ≡ (ah + bh) % K → lo < al → (hi + 1) % K * K + lo ≡ ah * K + al + (bh * K + bl)
-  add-carry lo hi L H less =
+  add-carry : (lo hi top : ℕ) → lo ≡ (al + bl) % K → hi ≡ (ah + bh) % K → top ≡ (hi + 1) % K → lo < al
+      → top * K + lo ≡ ah * K + al + (bh * K + bl)
+  add-carry lo hi top L H U less =
       let c : bl + al ≡ lo + K = back-borrow K bl lo al B A (ap (λ (x : ℕ). x % K) (omega arith) ∙ sym L) less in
       let p = add-mul ah bh K in
       let n = next (ah + bh) K in
       let z : hi ≡ ah + bh = H ∙ mod-eq-of-lt (upper (ah + bh) (omega arith)) in
-      ap (λ (x : ℕ). (x + 1) % K * K + lo) z ∙ ap (λ (x : ℕ). x * K + lo) (mod-eq-of-lt (upper (ah + bh + 1) (omega arith))) ∙ omega arith
+      ap (λ (x : ℕ). x * K + lo) (U ∙ ap (λ (x : ℕ). (x + 1) % K) z ∙ mod-eq-of-lt (upper (ah + bh + 1) (omega arith))) ∙ omega arith
 
-  pub add-plain : (lo hi : ℕ) → lo ≡ (al + bl) % K → hi ≡ (ah + bh) % K → al ≤ lo → hi * K + lo ≡ ah * K + al + (bh * K + bl)
-  add-plain lo hi L H more =
-      let c : bl + al ≡ lo = back-plain K bl lo al B A (ap (λ (x : ℕ). x % K) (omega arith) ∙ sym L) more in
+  add-no-carry : (lo hi : ℕ) → lo ≡ (al + bl) % K → hi ≡ (ah + bh) % K → al ≤ lo → hi * K + lo ≡ ah * K + al + (bh * K + bl)
+  add-no-carry lo hi L H more =
+      let c : bl + al ≡ lo = back-no-borrow K bl lo al B A (ap (λ (x : ℕ). x % K) (omega arith) ∙ sym L) more in
       let p = add-mul ah bh K in
       ap (λ (x : ℕ). x * K + lo) (H ∙ mod-eq-of-lt (upper (ah + bh) (omega arith))) ∙ omega arith
 
@@ -72,7 +88,7 @@ module _ (K ah al bh bl : ℕ) (AH : ah < K) (A : al < K) (BH : bh < K) (B : bl 
   sub-upper l = go (lt-or-le ah bh)
     where
       go : (ah < bh) ⊎ (bh ≤ ah) → bh ≤ ah
-      go (inl p) = let m : ah + 1 ≤ bh = omega arith in let q = mul-le-mul-right K m in let n = next ah K in omega arith
+      go (inl p) = let q = upper-less K ah al bh bl A p in omega arith
       go (inr p) = p
 
   sub-upper-borrow : al < bl → bh < ah
@@ -82,18 +98,19 @@ module _ (K ah al bh bl : ℕ) (AH : ah < K) (A : al < K) (BH : bh < K) (B : bl 
       go (inl p) = p
       go (inr p) = let q = mul-le-mul-right K p in omega arith
 
-  pub sub-plain : (lo hi : ℕ) → lo < K → hi < K → (lo + bl) % K ≡ al → (hi + bh) % K ≡ ah → bl ≤ al → hi * K + lo ≡ ah * K + al - (bh * K + bl)
-  sub-plain lo hi L H p q l =
-      let x = back-plain K lo al bl L B p l in
+  sub-no-borrow : (lo hi : ℕ) → lo < K → hi < K → (lo + bl) % K ≡ al → (hi + bh) % K ≡ ah → bl ≤ al → hi * K + lo ≡ ah * K + al - (bh * K + bl)
+  sub-no-borrow lo hi L H p q l =
+      let x = back-no-borrow K lo al bl L B p l in
       let y = add-mul hi bh K in
-      let z = ap (λ (x : ℕ). x * K) (back-plain K hi ah bh H BH q (sub-upper l)) in
+      let z = ap (λ (x : ℕ). x * K) (back-no-borrow K hi ah bh H BH q (sub-upper l)) in
       omega arith
 
-  pub sub-borrow : (lo hi top : ℕ) → lo < K → hi < K → top < K → (lo + bl) % K ≡ al → (hi + bh) % K ≡ ah → (top + 1) % K ≡ hi → al < bl → top * K + lo ≡ ah * K + al - (bh * K + bl)
+  sub-borrow : (lo hi top : ℕ) → lo < K → hi < K → top < K → (lo + bl) % K ≡ al → (hi + bh) % K ≡ ah → (top + 1) % K ≡ hi → al < bl
+      → top * K + lo ≡ ah * K + al - (bh * K + bl)
   sub-borrow lo hi top L H U p q r l =
       let g = sub-upper-borrow l in
-      let e : hi + bh ≡ ah = back-plain K hi ah bh H BH q (le-of-lt g) in
-      let f : top + 1 ≡ hi = back-plain K top hi 1 U (omega arith) r (omega arith) in
+      let e : hi + bh ≡ ah = back-no-borrow K hi ah bh H BH q (le-of-lt g) in
+      let f : top + 1 ≡ hi = back-no-borrow K top hi 1 U (omega arith) r (omega arith) in
       let x = back-borrow K lo al bl L B p l in
       let y = add-mul hi bh K in
       let z = ap (λ (x : ℕ). x * K) e in
@@ -101,22 +118,42 @@ module _ (K ah al bh bl : ℕ) (AH : ah < K) (A : al < K) (BH : bh < K) (B : bl 
       let w = ap (λ (x : ℕ). x * K) f in
       omega arith
 
--- ---- order
-pub upper-less : (K ah al bh bl : ℕ) → al < K → ah < bh → ah * K + al < bh * K + bl
-upper-less K ah al bh bl A h = let m : ah + 1 ≤ bh = omega arith in let q = mul-le-mul-right K m in let n = next ah K in omega arith
+-- of pairs, with K = 2 ^ 64: lo and hi are the wrapped sums or differences of the halves
+module _ (a b : Pair) (A : a .lo < 2 ^ 64) (B : b .lo < 2 ^ 64) {lo hi : ℕ} where
+  module _ (h : val a + val b < 2 ^ 128) (L : lo ≡ (a .lo + b .lo) % 2 ^ 64) (H : hi ≡ (a .hi + b .hi) % 2 ^ 64) where
+    pub pair-carry : {top : ℕ} → top ≡ (hi + 1) % 2 ^ 64 → lo < a .lo → top * 2 ^ 64 + lo ≡ val a + val b
+    pair-carry {top} U less = add-carry (2 ^ 64) (a .hi) (a .lo) (b .hi) (b .lo) A B h lo hi top L H U less
+
+    pub pair-no-carry : a .lo ≤ lo → hi * 2 ^ 64 + lo ≡ val a + val b
+    pair-no-carry more = add-no-carry (2 ^ 64) (a .hi) (a .lo) (b .hi) (b .lo) A B h lo hi L H more
+
+  module _ (AH : a .hi < 2 ^ 64) (BH : b .hi < 2 ^ 64) (h : val b ≤ val a) (L : lo < 2 ^ 64) (H : hi < 2 ^ 64)
+      (l : (lo + b .lo) % 2 ^ 64 ≡ a .lo) (g : (hi + b .hi) % 2 ^ 64 ≡ a .hi) where
+    pub pair-borrow : {top : ℕ} → top < 2 ^ 64 → (top + 1) % 2 ^ 64 ≡ hi → a .lo < b .lo → top * 2 ^ 64 + lo ≡ val a - val b
+    pair-borrow {top} U u less = sub-borrow (2 ^ 64) (a .hi) (a .lo) (b .hi) (b .lo) AH A BH B h lo hi top L H U l g u less
+
+    pub pair-no-borrow : b .lo ≤ a .lo → hi * 2 ^ 64 + lo ≡ val a - val b
+    pair-no-borrow more = sub-no-borrow (2 ^ 64) (a .hi) (a .lo) (b .hi) (b .lo) AH A BH B h lo hi L H l g more
 
 -- with equal upper halves the lower ones decide
-pub lower-less : (K h g a b : ℕ) → h ≡ g → ltb a b ≡ ltb (h * K + a) (g * K + b)
+lower-less : (K h g a b : ℕ) → h ≡ g → ltb a b ≡ ltb (h * K + a) (g * K + b)
 lower-less K h g a b e = let z = ap (λ (x : ℕ). x * K) e in same-ltb a b (h * K + a) (g * K + b) (λ l. omega arith) (λ l. omega arith)
+
+pub pair-less : (a b : Pair) → a .lo < 2 ^ 64 → a .hi < b .hi → val a < val b
+pair-less a b A h = upper-less (2 ^ 64) (a .hi) (a .lo) (b .hi) (b .lo) A h
+
+pub pair-alike : (a b : Pair) → a .hi ≡ b .hi → ltb (a .lo) (b .lo) ≡ ltb (val a) (val b)
+pair-alike a b e = lower-less (2 ^ 64) (a .hi) (b .hi) (a .lo) (b .lo) e
 
 -- ---- products
 -- x * E cut to a multiple of K = E * F, with what was cut
 cut-shift : (K E F x : ℕ) → 0 < E → 0 < F → E * F ≡ K → x / F * K + x * E % K ≡ x * E
 cut-shift K E F x P Q k =
-    ap (λ (y : ℕ). y * K + x * E % K) (div-same x F (x * E) K Q (subst (λ (y : ℕ). 0 < y) k (mul-pos P Q)) (ap (λ (y : ℕ). x * y) (sym k) ∙ sym (mul-assoc x E F)))
+    ap (λ (y : ℕ). y * K + x * E % K)
+    (div-same x F (x * E) K Q (subst (λ (y : ℕ). 0 < y) k (mul-pos P Q)) (ap (λ (y : ℕ). x * y) (sym k) ∙ sym (mul-assoc x E F)))
     ∙ div-add-mod' (x * E) K
 
-pub product-halves : (W u1 u0 v1 v0 : ℕ) → 0 < W →
+product-halves : (W u1 u0 v1 v0 : ℕ) → 0 < W →
     (u1 * v1 + (u1 * v0 + u0 * v1) / W) * (W * W) + (u1 * v0 + u0 * v1) * W % (W * W) + (0 * (W * W) + u0 * v0) ≡ (u1 * W + u0) * (v1 * W + v0)
 product-halves W u1 u0 v1 v0 p =
     let m = u1 * v0 + u0 * v1 in
@@ -125,11 +162,11 @@ product-halves W u1 u0 v1 v0 p =
     let c : u1 * v1 * (W * W) + m * W + u0 * v0 ≡ (u1 * W + u0) * (v1 * W + v0) = simp (add-mul, mul-add, mul-assoc, mul-comm, mul-left-comm) (omega arith) in
     omega arith
 
--- ---- shifts, by E with E * F = K
+-- ---- shifts: by E with E * F = K
 module _ (K E F ah al : ℕ) (P : 0 < E) (Q : 0 < F) (k : E * F ≡ K) (A : al < K) where
   module _ (h : (ah * K + al) * E < K * K) where
-    up-total : (ah * E + al / F) * K + al * E % K ≡ (ah * K + al) * E
-    up-total =
+    up-value : (ah * E + al / F) * K + al * E % K ≡ (ah * K + al) * E
+    up-value =
         let a = add-mul (ah * E) (al / F) K in
         let b = cut-shift K E F al P Q k in
         let c = add-mul (ah * K) al E in
@@ -137,16 +174,16 @@ module _ (K E F ah al : ℕ) (P : 0 < E) (Q : 0 < F) (k : E * F ≡ K) (A : al <
         omega arith
 
     up-room : ah * E + al / F < K
-    up-room = let e = up-total in lt-of-mul-lt-mul-right K (lt-of-le-of-lt (omega arith) h)
+    up-room = let e = up-value in lt-of-mul-lt-mul-right K (lt-of-le-of-lt (omega arith) h)
 
-    up-plain : ah * E % K ≡ ah * E
-    up-plain = let e = up-room in mod-eq-of-lt (omega arith)
+    up-no-wrap : ah * E % K ≡ ah * E
+    up-no-wrap = let e = up-room in mod-eq-of-lt (omega arith)
 
-    pub up-fits : ah * E % K + al / F < K
-    up-fits = rw up-plain up-room
+    up-fits : ah * E % K + al / F < K
+    up-fits = rw up-no-wrap up-room
 
-    pub up-is : (ah * E % K + al / F) * K + al * E % K ≡ (ah * K + al) * E
-    up-is = rw up-plain up-total
+    up-is : (ah * E % K + al / F) * K + al * E % K ≡ (ah * K + al) * E
+    up-is = rw up-no-wrap up-value
 
   down-mid : ah * F % K ≡ ah % E * F
   down-mid =
@@ -155,10 +192,13 @@ module _ (K E F ah al : ℕ) (P : 0 < E) (Q : 0 < F) (k : E * F ≡ K) (A : al <
       ∙ ap (λ (y : ℕ). ah % E * F + y) (mul-mod-left ah F)
       ∙ omega arith
 
-  pub down-fits : ah * F % K + al / E < K
-  down-fits = rw down-mid (subst (λ (x : ℕ). ah % E * F + al / E < x) k (digits-lt (mod-lt ah P) (div-lt-iff-lt-mul P .1 (subst (λ (x : ℕ). al < x) (sym k ∙ mul-comm E F) A))))
+  down-fits : ah * F % K + al / E < K
+  down-fits =
+      rw down-mid
+      (subst (λ (x : ℕ). ah % E * F + al / E < x) k
+      (digits-lt (mod-lt ah P) (div-lt-iff-lt-mul P .1 (subst (λ (x : ℕ). al < x) (sym k ∙ mul-comm E F) A))))
 
-  pub down-is : ah / E * K + (ah * F % K + al / E) ≡ (ah * K + al) / E
+  down-is : ah / E * K + (ah * F % K + al / E) ≡ (ah * K + al) / E
   down-is =
       let x = cut-shift K F E ah Q P (mul-comm F E ∙ k) in
       let a = add-mul (ah * F) (al / E) E in
@@ -168,63 +208,106 @@ module _ (K E F ah al : ℕ) (P : 0 < E) (Q : 0 < F) (k : E * F ≡ K) (A : al <
       let t : (ah * F + al / E) * E + al % E ≡ ah * K + al = omega arith in
       s ∙ sym (digits-div (ah * F + al / E) {r = al % E} (mod-lt al P)) ∙ ap (λ (y : ℕ). y / E) t
 
-pub pow-rest : (d : ℕ) → d ≤ 64 → 2 ^ d * 2 ^ (64 - d) ≡ 2 ^ 64
-pow-rest d h = pow-split d (64 - d) 64 (omega arith)
-
--- by K and more
-pub pow-over : (d : ℕ) → 64 ≤ d → 2 ^ 64 * 2 ^ (d - 64) ≡ 2 ^ d
-pow-over d h = pow-split 64 (d - 64) d (omega arith)
-
+-- by K * E
 module _ (K E ah al : ℕ) (P : 0 < K) (A : al < K) where
-  pub down-far : ah / E ≡ (ah * K + al) / (K * E)
+  down-far : ah / E ≡ (ah * K + al) / (K * E)
   down-far = ap (λ (y : ℕ). y / E) (sym (digits-div ah A)) ∙ div-div-eq-div-mul (ah * K + al) K E
 
   module _ (Q : 0 < E) (h : (ah * K + al) * (K * E) < K * K) where
     up-small : (ah * K + al) * E < K
-    up-small = lt-of-mul-lt-mul-right K (lt-of-le-of-lt (le-of-eq (mul-right-comm (ah * K + al) E K ∙ mul-assoc (ah * K + al) K E)) h)
+    up-small =
+        lt-of-mul-lt-mul-right K (lt-of-le-of-lt (le-of-eq (mul-right-comm (ah * K + al) E K ∙ mul-assoc (ah * K + al) K E)) h)
 
     whole : ah * K + al ≡ al
     whole = go (lt-or-le 0 ah)
       where
         go : (0 < ah) ⊎ (ah ≤ 0) → ah * K + al ≡ al
-        go (inl a) = let b = mul-le-mul-right K a in let c = one-mul K in let d = mul-one (ah * K + al) in let e = mul-le-mul-left (ah * K + al) Q in let s = up-small in omega arith
+        go (inl a) =
+            let b = mul-le-mul-right K a in
+            let c = one-mul K in
+            let d = mul-one (ah * K + al) in
+            let e = mul-le-mul-left (ah * K + al) Q in
+            let s = up-small in
+            omega arith
         go (inr a) = let z : ah ≡ 0 = omega arith in ap (λ (x : ℕ). x * K + al) z ∙ omega arith
 
-    pub up-far : al * E % K * K + 0 ≡ (ah * K + al) * (K * E)
+    up-far : al * E % K * K + 0 ≡ (ah * K + al) * (K * E)
     up-far =
         rw (mod-eq-of-lt (subst (λ (x : ℕ). x * E < K) whole up-small), whole)
         (let e = mul-right-comm al E K ∙ mul-assoc al K E in omega arith)
 
+-- by d bits, with K = 2 ^ 64
+pow-rest : (d : ℕ) → d < 64 → 2 ^ d * 2 ^ (64 - d) ≡ 2 ^ 64
+pow-rest d h = pow-split d (64 - d) 64 (omega arith)
+
+pow-over : (d : ℕ) → 64 ≤ d → 2 ^ 64 * 2 ^ (d - 64) ≡ 2 ^ d
+pow-over d h = pow-split 64 (d - 64) d (omega arith)
+
+pub shift-up-none : (n d : ℕ) → d ≡ 0 → n ≡ n * 2 ^ d
+shift-up-none n d e = sym (ap (λ (x : ℕ). n * 2 ^ x) e ∙ mul-one n)
+
+pub shift-down-none : (n d : ℕ) → d ≡ 0 → n ≡ n / 2 ^ d
+shift-down-none n d e = sym (ap (λ (x : ℕ). n / 2 ^ x) e ∙ div-one n)
+
+module _ (a : Pair) (d : ℕ) (A : a .lo < 2 ^ 64) where
+  module _ (h : d < 64) where
+    pub shift-up-fits : val a * 2 ^ d < 2 ^ 128 → a .hi * 2 ^ d % 2 ^ 64 + a .lo / 2 ^ (64 - d) < 2 ^ 64
+    shift-up-fits s = up-fits (2 ^ 64) (2 ^ d) (2 ^ (64 - d)) (a .hi) (a .lo) (pow-pos d) (pow-pos (64 - d)) (pow-rest d h) A s
+
+    pub shift-up : val a * 2 ^ d < 2 ^ 128 → (a .hi * 2 ^ d % 2 ^ 64 + a .lo / 2 ^ (64 - d)) * 2 ^ 64 + a .lo * 2 ^ d % 2 ^ 64 ≡ val a * 2 ^ d
+    shift-up s = up-is (2 ^ 64) (2 ^ d) (2 ^ (64 - d)) (a .hi) (a .lo) (pow-pos d) (pow-pos (64 - d)) (pow-rest d h) A s
+
+    pub shift-down-fits : a .hi * 2 ^ (64 - d) % 2 ^ 64 + a .lo / 2 ^ d < 2 ^ 64
+    shift-down-fits = down-fits (2 ^ 64) (2 ^ d) (2 ^ (64 - d)) (a .hi) (a .lo) (pow-pos d) (pow-pos (64 - d)) (pow-rest d h) A
+
+    pub shift-down : a .hi / 2 ^ d * 2 ^ 64 + (a .hi * 2 ^ (64 - d) % 2 ^ 64 + a .lo / 2 ^ d) ≡ val a / 2 ^ d
+    shift-down = down-is (2 ^ 64) (2 ^ d) (2 ^ (64 - d)) (a .hi) (a .lo) (pow-pos d) (pow-pos (64 - d)) (pow-rest d h) A
+
+  module _ (h : 64 ≤ d) where
+    pub shift-up-far : val a * 2 ^ d < 2 ^ 128 → a .lo * 2 ^ (d - 64) % 2 ^ 64 * 2 ^ 64 + 0 ≡ val a * 2 ^ d
+    shift-up-far s =
+        let e : 2 ^ 64 * 2 ^ (d - 64) ≡ 2 ^ d = pow-over d h in
+        up-far (2 ^ 64) (2 ^ (d - 64)) (a .hi) (a .lo) (pow-pos 64) A (pow-pos (d - 64)) (subst (λ (x : ℕ). val a * x < 2 ^ 128) (sym e) s)
+        ∙ ap (λ (x : ℕ). val a * x) e
+
+    pub shift-down-far : 0 * 2 ^ 64 + a .hi / 2 ^ (d - 64) ≡ val a / 2 ^ d
+    shift-down-far =
+        flat (a .hi / 2 ^ (d - 64))
+        ∙ down-far (2 ^ 64) (2 ^ (d - 64)) (a .hi) (a .lo) (pow-pos 64) A
+        ∙ ap (λ (x : ℕ). val a / x) (pow-over d h)
+
+-- ---- the last d bits cleared; all of them, from 128 on
+pub none-left : (n d : ℕ) → n < 2 ^ 128 → 128 ≤ d → 0 ≡ n / 2 ^ d
+none-left n d h g = sym (div-eq-of-lt (lt-of-lt-of-le h (pow-mono g)))
+
+pub cleared-fits : (n d : ℕ) → n < 2 ^ 128 → n / 2 ^ d * 2 ^ d < 2 ^ 128
+cleared-fits n d h = lt-of-le-of-lt (div-mul-le-self n (2 ^ d)) h
+
+pub all-cleared : (n d : ℕ) → n < 2 ^ 128 → 128 ≤ d → 0 ≡ n / 2 ^ d * 2 ^ d
+all-cleared n d h g = sym (ap (λ (x : ℕ). x * 2 ^ d) (sym (none-left n d h g)) ∙ zero-mul (2 ^ d))
+
 -- ---- the last bits jammed: q is what is left of n after d + 1 bits
 pub twice-le : (n d : ℕ) → n / 2 ^ (d + 1) * 2 ≤ n
-twice-le n d = le-trans (mul-le-mul-left (n / 2 ^ (d + 1)) (pow-mono {i = 1} {j = d + 1} (omega arith))) (div-mul-le-self n (2 ^ (d + 1)))
+twice-le n d =
+    le-trans (mul-le-mul-left (n / 2 ^ (d + 1)) (pow-mono {i = 1} {j = d + 1} (omega arith))) (div-mul-le-self n (2 ^ (d + 1)))
 
 -- an even number's lower half is even
 pub jam-room : (h l q : ℕ) → h * 18446744073709551616 + l ≡ q * 2 → l < 18446744073709551616 → l + 1 < 18446744073709551616
 jam-room h l q e b = omega arith
 
-pub jam-some : (n d h l : ℕ) → h * 18446744073709551616 + l ≡ n / 2 ^ (d + 1) * 2 → n / 2 ^ (d + 1) * 2 ^ (d + 1) < n → h * 18446744073709551616 + (l + 1) ≡ jammed n d
+pub jam-some : (n d h l : ℕ) → h * 18446744073709551616 + l ≡ n / 2 ^ (d + 1) * 2 → n / 2 ^ (d + 1) * 2 ^ (d + 1) < n
+    → h * 18446744073709551616 + (l + 1) ≡ jammed n d
 jam-some n d h l e g = let m = div-add-mod' n (2 ^ (d + 1)) in omega arith
 
 pub jam-none : (n d v : ℕ) → v ≡ n / 2 ^ (d + 1) * 2 → n ≤ n / 2 ^ (d + 1) * 2 ^ (d + 1) → v ≡ jammed n d
 jam-none n d v e g = let m = div-add-mod' n (2 ^ (d + 1)) in omega arith
 
--- ---- how many digits: at most 128, and by the zeros that lead
-pub val-lt : (v : Pair) → v .hi < 2 ^ 64 → v .lo < 2 ^ 64 → val v < 2 ^ 128
-val-lt v H L = digits-lt {q = v .hi} {m = 2 ^ 64} {r = v .lo} {c = 2 ^ 64} H L
-
-pub val-size : (v : Pair) → v .hi < 2 ^ 64 → v .lo < 2 ^ 64 → size (val v) ≤ 128
-val-size v H L = size-le (val v) 128 (val-lt v H L)
-
-size-zero : size 0 ≡ 0
-unfolding size
-size-zero = refl
-
+-- ---- how many digits, by the zeros that lead
 pub digits-low : (h l : ℕ) → h ≡ 0 → l < 2 ^ 64 → 64 - leadingZeros 64 l ≡ size (h * 2 ^ 64 + l)
 digits-low h l e L = let z : h * 18446744073709551616 + l ≡ l = omega arith in rw z (go (eq-zero-or-pos l))
   where
     go : (l ≡ 0) ⊎ (0 < l) → 64 - leadingZeros 64 l ≡ size l
-    go (inl e) = rw (e, leading-of-zero 64) (sym size-zero)
+    go (inl e) = rw (e, leading-of-zero 64) (sym (le-zero (size-le 0 0 (pow-pos 0))))
     go (inr p) =
         let (j, e, lo, hi) = leading-top 64 l p L in
         let z : 64 - leadingZeros 64 l ≡ j + 1 = omega arith in
@@ -245,8 +328,18 @@ low n = bitAnd n 0xffff_ffff
 abbrev high : ℕ → ℕ
 high n = n / 2 ^ 32
 
+abbrev middle : ℕ → ℕ → ℕ
+middle u v = high u * low v + low u * high v
+
+abbrev pub PartsSmall : ℕ → ℕ → Type 0
+PartsSmall u v = (high u * high v < 2 ^ 42) × (high u * low v < 2 ^ 53) × (low u * high v < 2 ^ 53) × (low u * low v < 2 ^ 64)
+
+-- `upper` and `lower` of the code
+abbrev upper-and-lower : ℕ → ℕ → ℕ
+upper-and-lower u v = (high u * high v + middle u v / 2 ^ 32) * 2 ^ 64 + middle u v * 2 ^ 32 % 2 ^ 64 + (0 * 2 ^ 64 + low u * low v)
+
 module _ (u v : ℕ) (U : u < 2 ^ 53) (Q : v < 2 ^ 53) where
-  pub parts-small : (high u * high v < 2 ^ 42) × (high u * low v < 2 ^ 53) × (low u * high v < 2 ^ 53) × (low u * low v < 2 ^ 64)
+  pub parts-small : PartsSmall u v
   parts-small = (
     mul-lt-pow 21 21 (shr-lt 21 32 U) (shr-lt 21 32 Q),
     mul-lt-pow 21 32 (shr-lt 21 32 U) (mask-lt v 32),
@@ -254,5 +347,8 @@ module _ (u v : ℕ) (U : u < 2 ^ 53) (Q : v < 2 ^ 53) where
     mul-lt-pow 32 32 (mask-lt u 32) (mask-lt v 32),
   )
 
-  pub product-is : (high u * high v + (high u * low v + low u * high v) / 2 ^ 32) * 2 ^ 64 + (high u * low v + low u * high v) * 2 ^ 32 % 2 ^ 64 + (0 * 2 ^ 64 + low u * low v) ≡ u * v
+  pub product-is : upper-and-lower u v ≡ u * v
   product-is = product-halves (2 ^ 32) (high u) (low u) (high v) (low v) (pow-pos 32) ∙ rw (and-mask u 32, and-mask v 32, split u 32, split v 32)
+
+  pub product-fits : upper-and-lower u v < 2 ^ 128
+  product-fits = subst (λ (x : ℕ). x < 2 ^ 128) (sym product-is) (lt-of-lt-of-le (mul-lt-pow 53 53 U Q) (lit≤ tt))

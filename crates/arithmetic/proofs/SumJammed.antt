@@ -1,5 +1,6 @@
--- A term may be jammed before a sum is rounded: `sum` sees of it the digits above a place and whether all below are 0, where the result's last digit
--- lies above that place. G = 2 ^ (e + 1) is the place, the other term is M * G, and the jammed one is q * G + r, with r below G. Assumes nothing.
+-- For `align` of `mul_add`: a term may be jammed before a sum is rounded, since `sum` sees of it the digits above a place and whether all below are 0, where
+-- the result's last digit lies above that place. G = 2 ^ (e + 1) is the place, the other term is M * G, and the jammed one is q * G + r, with r below G.
+-- Assumes nothing.
 use mathlib.Core.Path.{_≡_, sym, ap, _∙_}
 use mathlib.Core.Logic.{_⊎_, inl, inr}
 use mathlib.Core.Bool.{Bool, true, false, _&&_, cond}
@@ -15,18 +16,18 @@ use Rattle.arithmetic.specs.Laws.Numbers.{same-ltb, lt-or-le, pow-split,
 use Rattle.arithmetic.specs.Laws.Sums.{sum-swap}
 use Rattle.arithmetic.proofs.RoundDropped.{closest-coarse, size-div, dropped, round-at}
 
--- ---- one number
+-- ---- one number is rounded
 module _ (e q : ℕ) where
   abbrev G : ℕ
   G = 2 ^ (e + 1)
 
-  -- the digits that are dropped, low down
+  -- how many digits are dropped, where the place lies below the smallest value
   drop-low : (r : ℕ) → r < G → e ≤ 1072 → dropped (q * G + r) ≡ size (q / 2 ^ (1074 - (e + 1))) - 53
   drop-low r R h =
       ap (λ (x : ℕ). size ((q * G + r) / x) - 53) (sym (pow-split (e + 1) (1074 - (e + 1)) 1074 (omega arith)))
       ∙ ap (λ (x : ℕ). size x - 53) (sym (div-div-eq-div-mul (q * G + r) G (2 ^ (1074 - (e + 1)))) ∙ ap (λ (x : ℕ). x / 2 ^ (1074 - (e + 1))) (digits-div q R))
 
-  -- and in a long number
+  -- and where the number reaches the place
   drop-long : (r : ℕ) → r < G → 0 < size q → dropped (q * G + r) ≡ size q + (e + 1) - 1074 - 53
   drop-long r R h =
       let z = sym (ap size (digits-div q R)) ∙ size-div (q * G + r) (e + 1) in
@@ -34,19 +35,23 @@ module _ (e q : ℕ) where
       ap (λ (x : ℕ). x - 53) (size-div (q * G + r) 1074) ∙ ap (λ (x : ℕ). x - 1074 - 53) w
 
   module _ (s : Bool) (r r' : ℕ) (R : r < G) (R' : r' < G) (same : min 1 r ≡ min 1 r') where
-    at : (k : ℕ) → dropped (q * G + r) ≡ k → dropped (q * G + r') ≡ k → e + 1 ≤ 1073 + k → round binary64 s (q * G + r) (2 ^ 2148) ≡ round binary64 s (q * G + r') (2 ^ 2148)
+    at : (k : ℕ) → dropped (q * G + r) ≡ k → dropped (q * G + r') ≡ k → e + 1 ≤ 1073 + k
+        → round binary64 s (q * G + r) (2 ^ 2148) ≡ round binary64 s (q * G + r') (2 ^ 2148)
     at k a b h =
         let j = 1073 + k - (e + 1) in
-        let p : 2 * (2 ^ j * G) ≡ 2 ^ (1074 + k) = ap (λ (x : ℕ). 2 * x) (pow-split j (e + 1) (1073 + k) (omega arith)) ∙ pow-split 1 (1073 + k) (1074 + k) (omega arith) in
+        let p : 2 * (2 ^ j * G) ≡ 2 ^ (1074 + k) =
+        ap (λ (x : ℕ). 2 * x) (pow-split j (e + 1) (1073 + k) (omega arith)) ∙ pow-split 1 (1073 + k) (1074 + k) (omega arith) in
         round-at s (q * G + r)
         ∙ ap (λ (d : ℕ). units binary64 s (closest (q * G + r) (2 ^ (1074 + d))) d) a
         ∙ ap (λ (x : ℕ). units binary64 s x k)
         (ap (λ (x : ℕ). closest (q * G + r) x) (sym p) ∙ closest-coarse G q r r' j R R' same ∙ ap (λ (x : ℕ). closest (q * G + r') x) p)
         ∙ sym (round-at s (q * G + r') ∙ ap (λ (d : ℕ). units binary64 s (closest (q * G + r') (2 ^ (1074 + d))) d) b)
 
-    pub round-jam : (e ≤ 1072) ⊎ (2 ^ 54 ≤ q) → round binary64 s (q * G + r) (2 ^ 2148) ≡ round binary64 s (q * G + r') (2 ^ 2148)
+    round-jam : (e ≤ 1072) ⊎ (2 ^ 54 ≤ q) → round binary64 s (q * G + r) (2 ^ 2148) ≡ round binary64 s (q * G + r') (2 ^ 2148)
     round-jam (inl h) = at (size (q / 2 ^ (1074 - (e + 1))) - 53) (drop-low r R h) (drop-low r' R' h) (omega arith)
-    round-jam (inr h) = let z = size-gt q 54 h in at (size q + (e + 1) - 1074 - 53) (drop-long r R (omega arith)) (drop-long r' R' (omega arith)) (omega arith)
+    round-jam (inr h) =
+        let z = size-gt q 54 h in
+        at (size q + (e + 1) - 1074 - 53) (drop-long r R (omega arith)) (drop-long r' R' (omega arith)) (omega arith)
 
 -- ---- the order of the terms
 step-up : (G M q : ℕ) → M < q → M * G + G ≤ q * G
@@ -77,6 +82,7 @@ module _ (G M q r r' : ℕ) (R : r < G) (R' : r' < G) (same : min 1 r ≡ min 1 
       go (inr a) = a
 
 -- ---- sums and differences
+-- `wide`: the place lies below the smallest value, or the sum and the difference have 54 digits above it
 module _ (e M q r r' : ℕ) (R : r < 2 ^ (e + 1)) (R' : r' < 2 ^ (e + 1)) (same : min 1 r ≡ min 1 r') (wide : (e ≤ 1072) ⊎ (q + 2 ^ 54 < M)) where
   abbrev g : ℕ
   g = 2 ^ (e + 1)
@@ -84,8 +90,9 @@ module _ (e M q r r' : ℕ) (R : r < 2 ^ (e + 1)) (R' : r' < 2 ^ (e + 1)) (same 
   abbrev rounded : Bool → ℕ → Float
   rounded s n = round binary64 s n (2 ^ 2148)
 
-  -- n * g + t and n * g + t', each in another form
-  through : (s : Bool) (n t t' x x' : ℕ) → x ≡ n * g + t → x' ≡ n * g + t' → t < g → t' < g → min 1 t ≡ min 1 t' → (e ≤ 1072) ⊎ (2 ^ 54 ≤ n) → rounded s x ≡ rounded s x'
+  -- x and x' are n * g + t and n * g + t'
+  through : (s : Bool) (n t t' x x' : ℕ) → x ≡ n * g + t → x' ≡ n * g + t' → t < g → t' < g → min 1 t ≡ min 1 t'
+      → (e ≤ 1072) ⊎ (2 ^ 54 ≤ n) → rounded s x ≡ rounded s x'
   through s n t t' x x' a a' b b' c h = ap (rounded s) a ∙ round-jam e n s t t' b b' c h ∙ sym (ap (rounded s) a')
 
   plus : (t : ℕ) → M * g + (q * g + t) ≡ (M + q) * g + t
@@ -129,7 +136,8 @@ module _ (e M q r r' : ℕ) (R : r < 2 ^ (e + 1)) (R' : r' < 2 ^ (e + 1)) (same 
       go : (r ≡ 0) ⊎ (0 < r) → (q < M) ⊎ (M ≤ q) → rounded s (M * g - (q * g + r)) ≡ rounded s (M * g - (q * g + r'))
       go (inl a) b = let z : r ≡ r' = omega arith in ap (λ (x : ℕ). rounded s (M * g - (q * g + x))) z
       go (inr a) (inr b) = let f = mul-le-mul-right g b in absurd (omega arith)
-      go (inr a) (inl b) = through s (M - q - 1) (g - r) (g - r') _ _ (under r R b) (under r' R' b) (omega arith) (omega arith) (omega arith) (far wide)
+      go (inr a) (inl b) =
+          through s (M - q - 1) (g - r) (g - r') _ _ (under r R b) (under r' R' b) (omega arith) (omega arith) (omega arith) (far wide)
 
   -- the difference as `sum` rounds it
   abbrev difference : Bool → Bool → ℕ → Float
@@ -143,7 +151,8 @@ module _ (e M q r r' : ℕ) (R : r < 2 ^ (e + 1)) (R' : r' < 2 ^ (e + 1)) (same 
       ) (go (lt-or-le (M * g) (q * g + r)))
     where
       go : (M * g < q * g + r) ⊎ (q * g + r ≤ M * g)
-          → difference s t (q * g + r) ≡ cond (ltb (M * g) (q * g + r)) (rounded t (q * g + r' - M * g)) (rounded (s && ltb (q * g + r) (M * g)) (M * g - (q * g + r')))
+          → difference s t (q * g + r)
+          ≡ cond (ltb (M * g) (q * g + r)) (rounded t (q * g + r' - M * g)) (rounded (s && ltb (q * g + r) (M * g)) (M * g - (q * g + r')))
       go (inl h) = rw (lt-ltb (M * g) (q * g + r) h) (over-jam t h)
       go (inr h) = rw (le-ltb (M * g) (q * g + r) h) (under-jam (s && ltb (q * g + r) (M * g)) h)
 

@@ -1,21 +1,26 @@
--- `sum` of two terms on one scale, by the order of the terms. Assumes nothing.
+-- What `sum_terms` of `mul_add` gives: `sum` of the terms a * 2 ^ e and b * 2 ^ e, by their order, as one magnitude v * 2 ^ e that is rounded.
+-- Assumes nothing.
 use mathlib.Core.Path.{_≡_}
 use mathlib.Core.Bool.{Bool, true, false, _&&_, Bool·beq}
-use Prim.Native.Nat.{ℕ, _+_, _-_, _*_, _<_}
+use Prim.Native.Nat.{ℕ, _+_, _-_, _*_, _^_}
 use native.Mathlib.Nat.{add-mul}
 use lib.Dec.{ltb}
+use lib.Pow.{pow-pos}
 use lib.Ieee.{binary64, round, sum}
 use Rattle.arithmetic.specs.Laws.Numbers.{ltb-mul, sub-mul}
 
-module _ (a b k c : ℕ) (K : 0 < k) (s t : Bool) where
-  pub sum-alike : Bool·beq s t ≡ true → round binary64 s ((a + b) * k) c ≡ sum binary64 s (a * k) t (b * k) c
+module _ (a b e : ℕ) (s t : Bool) where
+  pub sum-alike : (v : ℕ) → v ≡ a + b → Bool·beq s t ≡ true
+      → round binary64 s (v * 2 ^ e) (2 ^ 2148) ≡ sum binary64 s (a * 2 ^ e) t (b * 2 ^ e) (2 ^ 2148)
   unfolding sum
-  sum-alike h = rw (h, add-mul a b k)
+  sum-alike v p h = rw (p, h, add-mul a b (2 ^ e))
 
-  pub sum-less : Bool·beq s t ≡ false → ltb a b ≡ true → round binary64 t ((b - a) * k) c ≡ sum binary64 s (a * k) t (b * k) c
+  pub sum-less : (v : ℕ) → v ≡ b - a → Bool·beq s t ≡ false → ltb a b ≡ true
+      → round binary64 t (v * 2 ^ e) (2 ^ 2148) ≡ sum binary64 s (a * 2 ^ e) t (b * 2 ^ e) (2 ^ 2148)
   unfolding sum
-  sum-less h l = rw (h, ltb-mul a b k K, l, sub-mul b a k)
+  sum-less v p h l = rw (p, h, ltb-mul a b (2 ^ e) (pow-pos e), l, sub-mul b a (2 ^ e))
 
-  pub sum-more : Bool·beq s t ≡ false → ltb a b ≡ false → round binary64 (s && ltb b a) ((a - b) * k) c ≡ sum binary64 s (a * k) t (b * k) c
+  pub sum-more : (v : ℕ) (u : Bool) → v ≡ a - b → u ≡ (s && ltb b a) → Bool·beq s t ≡ false → ltb a b ≡ false
+      → round binary64 u (v * 2 ^ e) (2 ^ 2148) ≡ sum binary64 s (a * 2 ^ e) t (b * 2 ^ e) (2 ^ 2148)
   unfolding sum
-  sum-more h l = rw (h, ltb-mul a b k K, l, ltb-mul b a k K, sub-mul a b k)
+  sum-more v u p q h l = rw (p, q, h, ltb-mul a b (2 ^ e) (pow-pos e), l, ltb-mul b a (2 ^ e) (pow-pos e), sub-mul a b (2 ^ e))

@@ -1,11 +1,12 @@
--- The methods of `f64` that the source calls, but for `sqrt`, `mul_add`, `exp`, `ln` and `ln_1p`, which have files of their own; and `mul_add2_sel`. Definitions only.
+-- The methods of `f64` that the source calls, and its `mul_add2_sel`. Definitions only.
+-- `sqrt`, `mul_add`, `exp`, `ln` and `ln_1p` have files of their own.
 use Prim.Native.Nat.{_*_, _/_}
 use mathlib.Core.Bool.{Bool, true, false, not, _||_, cond}
 use lib.Ieee.{Float, nan, inf, fin, binary64, up, down, round, neg, isNan, lt}
 use lib.Ieee.Scale.{finite}
 use Rattle.arithmetic.specs.Operations.{_⊕_, _⊗_, _⊘_, one}
 
--- the sign: true for what is written with a minus, -0 among them
+-- IEEE 754-2019's isSignMinus: the sign is set, as that of -0 is; a NaN has none
 abbrev pub isSignMinus : Float → Bool
 isSignMinus nan = false
 isSignMinus (inf s) = s
@@ -30,7 +31,8 @@ trunc nan = nan
 trunc (inf s) = inf s
 trunc (fin s m e) = round binary64 s (m * up e / down e) 1
 
--- whether `max` takes x rather than y: the larger, and of two that are equal, which may be zeros, x where its sign is clear
+-- whether `max` takes x rather than y, by x < y, y < x and the sign of x: the larger, and of two that are equal, which may be zeros, x where
+-- its sign is clear
 abbrev pub takesFirstBy : Bool → Bool → Bool → Bool
 takesFirstBy l g s = cond l false (cond g true (not s))
 

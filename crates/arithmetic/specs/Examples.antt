@@ -1,4 +1,4 @@
--- Values of the functions that antt computes, besides the keystrokes of document 01, which stand with layer four. Assumes nothing.
+-- Values that antt computes by the definitions; those of the keystrokes of REQUIREMENTS 12 stand with layer four. Assumes nothing.
 use mathlib.Core.Path.{_≡_, refl, sym, subst}
 use Prim.Native.Nat.{ℕ, _^_}
 use mathlib.Core.Bool.{true, false}
@@ -19,7 +19,7 @@ pub root-of-two : sqrt two ≡ bits 0x3ff6_a09e_667f_3bcd
 unfolding sqrt ofBits
 root-of-two = refl
 
--- the product of the roots of x and x for x = 1, 2 and 4: 4 times x has 4 times the product, and twice x has not twice the product
+-- √x * √x for x = 1, 2 and 4: 4 times x has 4 times the product, and twice x has not twice the product
 pub root-products : (sqrt one ⊗ sqrt one ≡ one) × (sqrt two ⊗ sqrt two ≡ bits 0x4000_0000_0000_0001) × (sqrt four ⊗ sqrt four ≡ four)
 unfolding sqrt mul ofBits
 root-products = (refl, refl, refl)
@@ -28,7 +28,7 @@ pub product-not-doubled : Times 1 (sqrt one ⊗ sqrt one) (sqrt two ⊗ sqrt two
 unfolding sqrt mul ofBits
 product-not-doubled h = subst (λ (n : ℕ). T (eqb n (2 ^ 52))) (sym (h .value)) tt
 
--- specials, signs of exact zeros, a tie at the smallest value, and overflow
+-- infinities and NaN, signs of exact zeros, a tie at the smallest value, and overflow
 pub fused-controls : (mulAdd (inf false) (fin true 0 (pos 0)) (fin false 1 (pos 0)) ≡ nan)
     × (mulAdd (inf false) (fin true 1 (pos 0)) (inf false) ≡ nan)
     × (mulAdd (inf false) (fin true 1 (pos 0)) (inf true) ≡ inf true)
@@ -44,7 +44,9 @@ unfolding mulAdd
 fused-controls = (refl, refl, refl, refl, refl, refl, refl, refl, refl, refl, refl)
 
 -- e; the smallest result above zero, for which k is -1075; the largest, for which k is 1024
-pub exp-values : (exp one ≡ bits 0x4005_bf0a_8b14_576a) × (exp uThreshold ≡ bits 1) × (exp oThreshold ≡ bits 0x7fef_ffff_ffff_ff2a)
+pub exp-values : (exp one ≡ bits 0x4005_bf0a_8b14_576a)
+    × (exp uThreshold ≡ bits 1)
+    × (exp oThreshold ≡ bits 0x7fef_ffff_ffff_ff2a)
 unfolding exp
 exp-values = (refl, refl, refl)
 

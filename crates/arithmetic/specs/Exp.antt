@@ -1,4 +1,4 @@
--- e ^ x, as document 01 has it, by fdlibm's coefficients: x is k ln 2 + r, and y, which is e ^ r, is scaled by 2 ^ k. Definitions only.
+-- e ^ x of REQUIREMENTS 7, with fdlibm's names and coefficients: x is k ln 2 + r, and y, which is e ^ r, is scaled by 2 ^ k. Definitions only.
 use Prim.Native.Nat.{_*_}
 use mathlib.Core.Bool.{Bool, cond}
 use lib.IntN.{ℤ}
@@ -6,7 +6,7 @@ use lib.Ieee.{Float, nan, inf, fin, binary64, up, down, round, add, sub, mul, di
 use Rattle.arithmetic.specs.Operations.{_⊕_, _⊖_, _⊗_, _⊘_, bits, plusZero, half, one, two, infinity}
 use Rattle.arithmetic.specs.Basic.{isSignMinus, trunc}
 
--- 01's H and L, whose sum is ln 2, and I, which is 1 / ln 2
+-- two parts of ln 2, and 1 / ln 2
 abbrev pub ln2Hi : Float
 ln2Hi = bits 0x3FE6_2E42_FEE0_0000
 
@@ -23,23 +23,34 @@ oThreshold = bits 0x4086_2E42_FEFA_39EF
 abbrev pub uThreshold : Float
 uThreshold = bits 0xC087_4910_D52D_3051
 
+-- coefficients of r (e ^ r + 1) / (e ^ r - 1) = 2 + P1 r ^ 2 + P2 r ^ 4 + ..
+abbrev pub P1 : Float
+P1 = bits 0x3FC5_5555_5555_553E
+
+abbrev pub P2 : Float
+P2 = bits 0xBF66_C16C_16BE_BD93
+
+abbrev pub P3 : Float
+P3 = bits 0x3F11_566A_AF25_DE2C
+
+abbrev pub P4 : Float
+P4 = bits 0xBEBB_BD41_C5D2_6BF1
+
+abbrev pub P5 : Float
+P5 = bits 0x3E66_3769_72BE_A4D0
+
 -- x / ln 2, and a half away from zero by the sign; k is its whole part
 unfoldable pub halfAway : Bool → Float → Float
 halfAway s x = cond s (x ⊗ invLn2 ⊖ half) (x ⊗ invLn2 ⊕ half)
 
--- y, with 01's P1 to P5
+-- y: e ^ (x - k ln 2)
 unfoldable pub reduced : Float → Float → Float
 reduced x k =
     let h = x ⊖ k ⊗ ln2Hi in
     let l = k ⊗ ln2Lo in
     let r = h ⊖ l in
     let q = r ⊗ r in
-    let p1 = bits 0x3FC5_5555_5555_553E in
-    let p2 = bits 0xBF66_C16C_16BE_BD93 in
-    let p3 = bits 0x3F11_566A_AF25_DE2C in
-    let p4 = bits 0xBEBB_BD41_C5D2_6BF1 in
-    let p5 = bits 0x3E66_3769_72BE_A4D0 in
-    let c = r ⊖ q ⊗ (p1 ⊕ q ⊗ (p2 ⊕ q ⊗ (p3 ⊕ q ⊗ (p4 ⊕ q ⊗ p5)))) in
+    let c = r ⊖ q ⊗ (P1 ⊕ q ⊗ (P2 ⊕ q ⊗ (P3 ⊕ q ⊗ (P4 ⊕ q ⊗ P5)))) in
     one ⊖ ((l ⊖ (r ⊗ c) ⊘ (two ⊖ c)) ⊖ h)
 
 -- y times 2 ^ k, rounded once
@@ -48,7 +59,7 @@ scaleB nan k = nan
 scaleB (inf s) k = inf s
 scaleB (fin s m e) k = round binary64 s (m * up e * up k) (down e * down k)
 
--- `toSigned 63` is the whole number that k is: k is far from the ends of its range
+-- e ^ x; `toSigned 63` is the whole number that k is, since k is far from the ends of the range of 63 bits
 unfoldable pub exp : Float → Float
 unfolding add sub mul div lt isNan toSigned ofBits trunc halfAway reduced scaleB
 exp x =

@@ -1,9 +1,12 @@
 -- Facts about the definitions, which the proofs here and the layers above cite.
+-- Whole numbers and choices; values as fractions, bit patterns and signs:
 pub mod Numbers
 pub mod Choices
 pub mod Ratio
 pub mod Times
 pub mod Patterns
+pub mod Signs
+-- Rounding, and each operation on values and on 2 ^ k times each:
 pub mod Rounding
 pub mod Representable
 pub mod Compare
@@ -11,15 +14,16 @@ pub mod Sums
 pub mod Products
 pub mod Extremes
 pub mod ScaledRatios
+pub mod Identities
+pub mod Bounds
+-- The square root:
 pub mod WholeRoots
 pub mod SqrtValues
 pub mod SqrtScaling
 pub mod SqrtNearest
 pub mod SqrtBounds
-pub mod Identities
-pub mod Signs
-pub mod Bounds
+-- What `exp` and `ln` rest on; quotients by roots:
 pub mod PowersOfTwo
+pub mod ExpFits
 pub mod Logarithm
 pub mod Quotients
-pub mod ExpFits

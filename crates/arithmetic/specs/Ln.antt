@@ -1,4 +1,4 @@
--- The natural logarithms `ln` and `ln_1p` of document 01, in its names and its order of operations. Definitions only.
+-- The natural logarithms `ln` and `ln_1p` of REQUIREMENTS 7, in its names and its order of operations. Definitions only.
 use Prim.Native.Nat.{ℕ, _-_, _*_, _/_, _^_}
 use mathlib.Core.Bool.{Bool, false, true, _&&_, _||_, cond}
 use lib.Dec.{ltb}
@@ -8,7 +8,7 @@ use lib.Ieee.Positive.{num, den}
 use Rattle.arithmetic.specs.Exp.{ln2Hi as H, ln2Lo as L}
 use Rattle.arithmetic.specs.Operations.{_⊕_, _⊖_, _⊗_, _⊘_, bits, plusZero, half, one, two}
 
--- 01's G1 to G7
+-- coefficients of ln ((1 + s) / (1 - s)) / s = 2 + G1 s ^ 2 + G2 s ^ 4 + ..
 abbrev pub G1 : Float
 G1 = bits 0x3FE5_5555_5555_5593
 
@@ -34,13 +34,13 @@ G7 = bits 0x3FC2_F112_DF3E_5244
 abbrev pub inUnits : Float → ℕ
 inUnits x = num x * 2 ^ low binary64 / den x
 
--- the p for which a / 2 ^ p lies from 3FE6A09E00000000, which is 741455 / 2 ^ 20, to below its double 3FF6A09E00000000: since a / 2 ^ size a lies from
--- 1 / 2 to below 1, it is size a, or one less where that fraction is below
+-- the p for which a / 2 ^ p lies from 3FE6A09E00000000, which is 741455 / 2 ^ 20, to below its double 3FF6A09E00000000: since
+-- a / 2 ^ size a lies from 1 / 2 to below 1, it is size a, or one less where that fraction is below 741455 / 2 ^ 20
 unfoldable pub place : ℕ → ℕ
 unfolding size
 place a = cond (ltb (a * 2 ^ 20) (741455 * 2 ^ size a)) (size a - 1) (size a)
 
--- m and k: for a and p as above x is a / 2 ^ 1074 = a / 2 ^ p * 2 ^ (p - 1074)
+-- m and k of x = m * 2 ^ k: with a for `inUnits x` and p for its place, x is a / 2 ^ 1074 = a / 2 ^ p * 2 ^ (p - 1074)
 unfoldable pub significand : Float → Float
 unfolding place round
 significand x = round binary64 false (inUnits x) (2 ^ place (inUnits x))

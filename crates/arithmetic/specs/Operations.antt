@@ -1,4 +1,4 @@
--- The operations of binary64 as operators, and Rust's constants that the source names. Definitions only.
+-- The operations of binary64 as operators, and the constants that the definitions share, Rust's among them. Definitions only.
 use Prim.Native.Nat.{ℕ}
 use lib.Ieee.{Float, binary64, add, sub, mul, div, ofBits}
 

@@ -6,6 +6,18 @@ ghost use lib.Dec.{T};
 ghost use lib.Ieee.{binary64, isNan, round};
 ghost use Rattle.arithmetic.specs.Basic.{abs, signum, trunc, takesFirst, max, min, recip, isFinite, isInfinite};
 ghost use Rattle.arithmetic.specs.Internal.WholePart.{wholePart};
+use super::format::BIAS;
+use super::format::EXPONENT_FIELD;
+use super::format::FRACTION_DIGITS;
+use super::format::FRACTION_FIELD;
+use super::format::INFINITY;
+use super::format::NEGATIVE_INFINITY;
+use super::format::SIGN;
+use super::format::TWO_TO_52;
+use super::format::WHOLE_FIELD;
+
+// WHOLE_FIELD - 63: the least exponent's field at which a shift gives the whole part. Below it a value is below 1.
+const FIRST_SHIFTED_FIELD: u64 = 1012;
 
 // Of NaN, NaN: as a quotient, since for a cheaper operation the compiler computes both results and
 // picks one, which takes longer than the test.
@@ -15,7 +27,7 @@ pub fn abs(x: f64) -> f64
     if x != x {
         return x / x;
     }
-    f64::from_bits(f64::to_bits(x) % 0x8000_0000_0000_0000)
+    f64::from_bits(f64::to_bits(x) % SIGN)
 }
 
 pub fn signum(x: f64) -> f64
@@ -24,27 +36,22 @@ pub fn signum(x: f64) -> f64
     if x != x {
         return x;
     }
-    if f64::to_bits(x) < 0x8000_0000_0000_0000 {
-        1.0
-    } else {
-        -1.0
-    }
+    if f64::to_bits(x) < SIGN { 1.0 } else { -1.0 }
 }
 
-// The whole part of |x|, and 2^52 from there on. The pattern's last 1075 - field digits are below the
-// unit; a field below 1012, where that is more than 63, is one of a value below 1.
+// The whole part of |x|, and 2^52 from there on.
 pub(crate) fn whole_part(x: f64) -> u64
     requires { ⌜ T (not (isNan x)) ⌝ }
     ensures { λ r. ⌜ r ≡ wholePart x ⌝ }
 {
     let bits = f64::to_bits(x);
-    let field = (bits >> 52) & 0x7ff;
-    if field < 1012 {
+    let field = (bits >> FRACTION_DIGITS) & EXPONENT_FIELD;
+    if field < FIRST_SHIFTED_FIELD {
         0
-    } else if field < 1075 {
-        ((bits & 0xf_ffff_ffff_ffff) + 0x10_0000_0000_0000) >> (1075 - field)
+    } else if field < WHOLE_FIELD {
+        ((bits & FRACTION_FIELD) + TWO_TO_52) >> (WHOLE_FIELD - field)
     } else {
-        0x10_0000_0000_0000
+        TWO_TO_52
     }
 }
 
@@ -64,12 +71,12 @@ pub fn trunc(x: f64) -> f64
         return x;
     }
     let bits = f64::to_bits(x);
-    let field = (bits >> 52) & 0x7ff;
-    if field < 1023 {
-        return f64::from_bits(bits - bits % 0x8000_0000_0000_0000);
+    let field = (bits >> FRACTION_DIGITS) & EXPONENT_FIELD;
+    if field < BIAS {
+        return f64::from_bits(bits - bits % SIGN);
     }
-    if field < 1075 {
-        let below = 1075 - field;
+    if field < WHOLE_FIELD {
+        let below = WHOLE_FIELD - field;
         return f64::from_bits((bits >> below) << below);
     }
     x
@@ -86,7 +93,7 @@ fn takes_first(x: f64, y: f64) -> bool
     if y < x {
         return true;
     }
-    f64::to_bits(x) < 0x8000_0000_0000_0000
+    f64::to_bits(x) < SIGN
 }
 
 pub fn max(x: f64, y: f64) -> f64
@@ -122,8 +129,8 @@ pub fn recip(x: f64) -> f64
 pub fn is_finite(x: f64) -> bool
     ensures { λ r. ⌜ r ≡ isFinite x ⌝ }
 {
-    if x < f64::from_bits(0x7ff0_0000_0000_0000) {
-        f64::from_bits(0xfff0_0000_0000_0000) < x
+    if x < f64::from_bits(INFINITY) {
+        f64::from_bits(NEGATIVE_INFINITY) < x
     } else {
         false
     }
@@ -132,9 +139,9 @@ pub fn is_finite(x: f64) -> bool
 pub fn is_infinite(x: f64) -> bool
     ensures { λ r. ⌜ r ≡ isInfinite x ⌝ }
 {
-    if x == f64::from_bits(0x7ff0_0000_0000_0000) {
+    if x == f64::from_bits(INFINITY) {
         true
     } else {
-        x == f64::from_bits(0xfff0_0000_0000_0000)
+        x == f64::from_bits(NEGATIVE_INFINITY)
     }
 }

@@ -1,14 +1,18 @@
 // The natural logarithm of x, and of 1 + u for a u near 0, with fdlibm's coefficients.
 ghost use mathlib.Core.Path.{_≡_};
-ghost use Prim.Native.Nat.{_+_, _-_, _/_, _%_, _≤_};
+ghost use Prim.Native.Nat.{_^_, _≤_};
 ghost use lib.Dec.{T};
-ghost use lib.Ieee.{binary64, minus, ofInt};
 ghost use lib.Ieee.Positive.{positive};
-ghost use Rattle.arithmetic.specs.Operations.{bits};
 ghost use Rattle.arithmetic.specs.Ln.{significand, exponent, series, ln, ln1p};
+ghost use Rattle.arithmetic.specs.Internal.Ln.{significandOfBits, exponentOfBits};
 use super::exp::LN2_HI;
 use super::exp::LN2_LO;
+use super::format::INFINITY;
+use super::format::NEGATIVE_INFINITY;
+use super::format::TWO_TO_52;
 
+// Coefficients of ln((1 + s) / (1 - s)) / s = 2 + G1 s² + G2 s⁴ + .., near enough for an f = 2s / (1 - s) from √(1/2) - 1
+// to √2 - 1.
 const G1: f64 = 6.666666666666735130e-01;
 
 const G2: f64 = 3.999999999940941908e-01;
@@ -23,22 +27,33 @@ const G6: f64 = 1.531383769920937332e-01;
 
 const G7: f64 = 1.479819860511658591e-01;
 
+// The pattern of the least m, 741455 / 2^20, a little below √(1/2), and that pattern's fraction.
+const LEAST_SIGNIFICAND: u64 = 0x3fe6_a09e_0000_0000;
+
+const LEAST_FRACTION: u64 = 0x0006_a09e_0000_0000;
+
+// 2^52, by which a subnormal number is made a normal one, and what that adds to the pattern of a normal number: 52
+// steps of the exponent's field.
+const NORMALISER: f64 = 4503599627370496.0;
+
+const NORMALISER_STEPS: u64 = 0x0340_0000_0000_0000;
+
 // The number m * 2^k, for a whole k.
 pub struct Decomposed {
     pub m: f64,
     pub k: f64,
 }
 
-// m and k by the bits b of m * 2^k, whose exponent's field is counted from 52 on. That field has a new
-// value from each power of two on, and k from 3FE6A09E00000000 times it, so b is moved down first.
+// m and k by the pattern b of m * 2^k, whose exponent's field is counted from 52 on. That field has a new value from
+// each power of two on, and k from the least m times it, so b is moved down first.
 fn decompose_bits(b: u64) -> Decomposed
-    requires { ⌜ 4503599627370496 ≤ b ⌝ }
-    ensures { λ r. ⌜ (r .m ≡ bits ((b - 0x6a09e00000000) % 4503599627370496 + 0x3fe6a09e00000000)) × (r .k ≡ ofInt binary64 (minus ((b - 0x6a09e00000000) / 4503599627370496) 1074)) ⌝ }
+    requires { ⌜ 2 ^ 52 ≤ b ⌝ }
+    ensures { λ r. ⌜ (r .m ≡ significandOfBits b) × (r .k ≡ exponentOfBits b) ⌝ }
 {
-    let t = b - 0x0006_a09e_0000_0000;
+    let t = b - LEAST_FRACTION;
     Decomposed {
-        m: f64::from_bits(t % 4503599627370496 + 0x3fe6_a09e_0000_0000),
-        k: ((t / 4503599627370496) as u32) as f64 - 1074.0,
+        m: f64::from_bits(t % TWO_TO_52 + LEAST_SIGNIFICAND),
+        k: ((t / TWO_TO_52) as u32) as f64 - 1074.0,
     }
 }
 
@@ -48,10 +63,10 @@ fn decompose(x: f64) -> Decomposed
     ensures { λ r. ⌜ (r .m ≡ significand x) × (r .k ≡ exponent x) ⌝ }
 {
     let b = f64::to_bits(x);
-    if b < 4503599627370496 {
-        return decompose_bits(f64::to_bits(x * 4503599627370496.0));
+    if b < TWO_TO_52 {
+        return decompose_bits(f64::to_bits(x * NORMALISER));
     }
-    decompose_bits(b + 0x0340_0000_0000_0000)
+    decompose_bits(b + NORMALISER_STEPS)
 }
 
 // The sum that both logarithms end with.
@@ -70,12 +85,12 @@ pub fn ln(x: f64) -> f64
     ensures { λ r. ⌜ r ≡ ln x ⌝ }
 {
     if x == 0.0 {
-        return f64::from_bits(0xfff0_0000_0000_0000);
+        return f64::from_bits(NEGATIVE_INFINITY);
     }
     if x < 0.0 {
         return 0.0 / 0.0;
     }
-    if x < f64::from_bits(0x7ff0_0000_0000_0000) {
+    if x < f64::from_bits(INFINITY) {
         let p = decompose(x);
         return series(p.m - 1.0, p.k, p.k * LN2_LO);
     }

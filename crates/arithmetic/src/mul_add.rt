@@ -1,4 +1,4 @@
-// x * a + b, rounded once.
+// x * a + b, rounded once: IEEE 754-2019's fusedMultiplyAdd.
 ghost use mathlib.Core.Path.{_≡_};
 ghost use mathlib.Core.Bool.{_&&_, cond};
 ghost use Prim.Native.Nat.{_+_, _-_, _*_, _^_, _≤_, _<_};
@@ -15,19 +15,26 @@ use super::format::EXPONENT_FIELD;
 use super::format::FRACTION_DIGITS;
 use super::format::FRACTION_FIELD;
 use super::format::INFINITY;
-use super::format::LEADING_DIGIT;
 use super::format::LOWEST;
 use super::format::NORMAL_DIGITS;
 use super::format::PRECISION;
 use super::format::SIGN;
+use super::format::TWO_TO_52;
 use super::pair;
 use super::pair::Pair;
-
-// Binary digits of one half of a pair.
-const WORD: u64 = 64;
+use super::pair::WORD;
 
 // A product has 106 binary digits at most, and can be shifted up by so many within a pair.
 const HEADROOM: u64 = 20;
+
+// Digits kept below the last one of a result: the guard digit, and the sticky digit, which is 1 where anything but 0 is
+// dropped below it.
+const GUARD_DIGITS: u64 = 2;
+
+// Their field, which counts quarters of the last digit, and its value at a tie.
+const GUARD_FIELD: u64 = 3;
+
+const TIE: u64 = 2;
 
 // The sign, and the magnitude m * 2^j in units of 2^-1074.
 pub struct Parts {
@@ -43,7 +50,7 @@ pub struct Terms {
     pub e: u64,
 }
 
-// m / 4 * 2^k, for an m of at most 55 digits.
+// m / 4 * 2^k, for an m of at most 55 digits: the last two are the guard digit and the sticky digit.
 pub struct Guarded {
     pub m: u64,
     pub k: u64,
@@ -67,14 +74,14 @@ fn decode(x: f64) -> Parts
     } else {
         Parts {
             negative,
-            m: digits + LEADING_DIGIT,
+            m: digits + TWO_TO_52,
             j: field - 1,
         }
     }
 }
 
-// p * 2^ep and m * 2^em on one scale. Of the term that reaches lower, what is below the scale is
-// jammed into its last bit, which lies far below the last bit of the rounded sum.
+// p * 2^ep and m * 2^em on one scale. What a term has below the scale is jammed into its last digit, which lies far
+// below the last digit of the rounded sum.
 fn align(p: Pair, ep: u64, m: u64, em: u64) -> Terms
     requires { ⌜ Operands (val p) ep m em ⌝ }
     ensures { λ r. ⌜ Aligned (val p) ep m em r ⌝ }
@@ -113,8 +120,7 @@ fn align(p: Pair, ep: u64, m: u64, em: u64) -> Terms
     }
 }
 
-// v * 2^e, in units of 2^-2148, cut down to the digits that a result keeps and two more, the last
-// of them jammed.
+// v * 2^e, in units of 2^-2148, cut to the digits that a result keeps, the guard digit and the sticky digit.
 fn to_guarded(v: Pair, e: u64) -> Guarded
     requires { ⌜ e < exponentBound ⌝ }
     ensures { λ r. ⌜ IsGuarded (val v * 2 ^ e) r ⌝ }
@@ -130,19 +136,20 @@ fn to_guarded(v: Pair, e: u64) -> Guarded
     }
 }
 
-// The same, for a v of n digits, above the place `at`.
+// The guarded number of v * 2^e for a v of n digits, where `at` is the exponent of the result's last digit, in units of
+// 2^-2148: digits below the guard digit are jammed into the sticky one, or zeros are appended.
 fn to_guarded_above(v: Pair, n: u64, e: u64, at: u64) -> Guarded
     requires { ⌜ n ≡ Ieee.size (val v) ⌝ ∗ ⌜ 0 < n ⌝ ∗ ⌜ e < exponentBound ⌝ ∗ ⌜ at ≡ 1074 + (n + e - 1127) ⌝ }
     ensures { λ r. ⌜ IsGuarded (val v * 2 ^ e) r ⌝ }
 {
-    if e + 2 <= at {
-        let m = pair::jam(v, at - e - 2);
+    if e + GUARD_DIGITS <= at {
+        let m = pair::jam(v, at - e - GUARD_DIGITS);
         Guarded {
             m: m.lo,
             k: at - LOWEST,
         }
     } else {
-        let m = pair::up(v, e + 2 - at);
+        let m = pair::up(v, e + GUARD_DIGITS - at);
         Guarded {
             m: m.lo,
             k: at - LOWEST,
@@ -155,18 +162,18 @@ fn round_guarded(m: u64) -> u64
     requires { ⌜ m < 2 ^ 55 ⌝ }
     ensures { λ r. ⌜ r ≡ closest m 4 ⌝ }
 {
-    let q = m >> 2;
-    let r = m & 3;
-    if r < 2 {
+    let q = m >> GUARD_DIGITS;
+    let r = m & GUARD_FIELD;
+    if r < TIE {
         q
-    } else if r == 2 {
+    } else if r == TIE {
         q + (q & 1)
     } else {
         q + 1
     }
 }
 
-// The value with a sign and the rest of the bits.
+// The value whose pattern has this sign and these bits below it.
 fn with_sign(negative: bool, magnitude: u64) -> f64
     requires { ⌜ magnitude ≤ 2047 * 2 ^ 52 ⌝ }
     ensures { λ r. ⌜ r ≡ Ieee.ofBits binary64 (cond negative (2 ^ 63) 0 + magnitude) ⌝ }
@@ -178,7 +185,8 @@ fn with_sign(negative: bool, magnitude: u64) -> f64
     }
 }
 
-// m / 4 * 2^k units of 2^-1074, rounded to a whole number times 2^k.
+// m / 4 * 2^k units of 2^-1074, rounded to a whole number times 2^k, or to an infinity. A carry out of the significand
+// goes into the exponent's field.
 fn pack(negative: bool, m: u64, k: u64) -> f64
     requires { ⌜ m < 2 ^ 55 ⌝ ∗ ⌜ k < keptExponentBound ⌝ ∗ ⌜ (0 < k → 2 ^ 54 ≤ m) ⌝ }
     ensures { λ r. ⌜ r ≡ Ieee.units binary64 negative (closest m 4) k ⌝ }
@@ -238,7 +246,7 @@ fn product_exponent(u: Parts, v: Parts) -> u64
     }
 }
 
-// x * a + b, rounded once.
+// x * a + b. Of finite x and a and a b that is not finite the result is b: the product by the operator could overflow.
 pub fn mul_add(x: f64, a: f64, b: f64) -> f64
     ensures { λ r. ⌜ r ≡ mulAdd x a b ⌝ }
 {

@@ -6,6 +6,16 @@ ghost use lib.Dec.{ltb};
 ghost use lib.Ieee as Ieee;
 ghost use Rattle.arithmetic.specs.Internal.Pair.{val, jammed};
 
+// Binary digits of one half of a pair, and of both.
+pub(crate) const WORD: u64 = 64;
+
+const BOTH_WORDS: u64 = 128;
+
+// Binary digits of half a word, and a word with only those of its lower half set.
+const HALF_WORD: u64 = 32;
+
+const LOWER_HALF: u64 = 0xffff_ffff;
+
 // The number hi * 2^64 + lo.
 pub struct Pair {
     pub hi: u64,
@@ -64,14 +74,14 @@ pub(crate) fn product(u: u64, v: u64) -> Pair
     requires { ⌜ u < 2 ^ 53 ⌝ ∗ ⌜ v < 2 ^ 53 ⌝ }
     ensures { λ r. ⌜ val r ≡ u * v ⌝ }
 {
-    let u1 = u >> 32;
-    let u0 = u & 0xffff_ffff;
-    let v1 = v >> 32;
-    let v0 = v & 0xffff_ffff;
+    let u1 = u >> HALF_WORD;
+    let u0 = u & LOWER_HALF;
+    let v1 = v >> HALF_WORD;
+    let v0 = v & LOWER_HALF;
     let middle = u1 * v0 + u0 * v1;
     let upper = Pair {
-        hi: u1 * v1 + (middle >> 32),
-        lo: middle << 32,
+        hi: u1 * v1 + (middle >> HALF_WORD),
+        lo: middle << HALF_WORD,
     };
     let lower = Pair { hi: 0, lo: u0 * v0 };
     add(upper, lower)
@@ -84,14 +94,14 @@ pub(crate) fn up(a: Pair, d: u64) -> Pair
 {
     if d == 0 {
         a
-    } else if d < 64 {
+    } else if d < WORD {
         Pair {
-            hi: (a.hi << d) + (a.lo >> (64 - d)),
+            hi: (a.hi << d) + (a.lo >> (WORD - d)),
             lo: a.lo << d,
         }
     } else {
         Pair {
-            hi: a.lo << (d - 64),
+            hi: a.lo << (d - WORD),
             lo: 0,
         }
     }
@@ -103,15 +113,15 @@ pub(crate) fn down(a: Pair, d: u64) -> Pair
 {
     if d == 0 {
         a
-    } else if d < 64 {
+    } else if d < WORD {
         Pair {
             hi: a.hi >> d,
-            lo: (a.hi << (64 - d)) + (a.lo >> d),
+            lo: (a.hi << (WORD - d)) + (a.lo >> d),
         }
-    } else if d < 128 {
+    } else if d < BOTH_WORDS {
         Pair {
             hi: 0,
-            lo: a.hi >> (d - 64),
+            lo: a.hi >> (d - WORD),
         }
     } else {
         Pair { hi: 0, lo: 0 }
@@ -123,7 +133,7 @@ pub(crate) fn cleared(a: Pair, d: u64) -> Pair
     ensures { λ r. ⌜ val r ≡ val a / 2 ^ d * 2 ^ d ⌝ }
 {
     let q = down(a, d);
-    if d < 128 {
+    if d < BOTH_WORDS {
         up(q, d)
     } else {
         Pair { hi: 0, lo: 0 }
@@ -151,8 +161,8 @@ pub(crate) fn digits(a: Pair) -> u64
     ensures { λ r. ⌜ r ≡ Ieee.size (val a) ⌝ }
 {
     if a.hi == 0 {
-        64 - (u64::leading_zeros(a.lo) as u64)
+        WORD - (u64::leading_zeros(a.lo) as u64)
     } else {
-        128 - (u64::leading_zeros(a.hi) as u64)
+        BOTH_WORDS - (u64::leading_zeros(a.hi) as u64)
     }
 }

@@ -1,4 +1,5 @@
--- What the steps of `mul_add` promise of their results. Magnitudes are whole numbers of units: of 2 ^ -1074 for an operand, and of 2 ^ -2148 for the product and the sum.
+-- What the steps of `mul_add` promise of their results. Magnitudes are whole numbers of units: of 2 ^ -1074 for an operand, and of
+-- 2 ^ -2148 for the product and the sum.
 use mathlib.Core.Path.{_≡_}
 use Prim.Native.Nat.{ℕ, _+_, _-_, _*_, _/_, _^_, _≤_, _<_}
 use mathlib.Core.Bool.{Bool}
@@ -43,12 +44,13 @@ pub record Operands (p ep m em : ℕ) : Type 0 where
 
 -- the terms r have the rounded sum of the product and the addend, whatever the signs
 pub record Aligned (p ep m em : ℕ) (r : Terms) : Type 0 where
-  pub same : (s t : Bool) → sum binary64 s (p * 2 ^ ep) t (m * 2 ^ em) (2 ^ 2148) ≡ sum binary64 s (val (r .a) * 2 ^ r .e) t (val (r .b) * 2 ^ r .e) (2 ^ 2148)
+  pub same : (s t : Bool)
+      → sum binary64 s (p * 2 ^ ep) t (m * 2 ^ em) (2 ^ 2148) ≡ sum binary64 s (val (r .a) * 2 ^ r .e) t (val (r .b) * 2 ^ r .e) (2 ^ 2148)
   pub first-small : val (r .a) < 2 ^ 127
   pub second-small : val (r .b) < 2 ^ 127
   pub low : r .e < exponentBound
 
--- m / 4 rounds as n does where its `k` last digits are dropped
+-- r .m / 4, whose last two digits are the guard and the sticky digit, rounds as n / 2 ^ 1074 does where its last r .k digits are dropped
 pub record IsGuarded (n : ℕ) (r : Guarded) : Type 0 where
   pub count : r .k ≡ size (n / 2 ^ 1074) - 53
   pub same : closest n (2 ^ (1074 + r .k)) ≡ closest (r .m) 4

@@ -1,4 +1,4 @@
--- What `whole_part` promises: a step of `exp`. The proof of `trunc` uses it too.
+-- What `whole_part` promises, a step of `exp`; the proof of `trunc` uses it too. Definitions only.
 use Prim.Native.Nat.{ℕ, _*_, _/_, _^_, min}
 use lib.Ieee.{Float, nan, inf, fin, up, down}
 

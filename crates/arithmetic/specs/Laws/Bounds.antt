@@ -1,7 +1,8 @@
--- What is no larger than a value of the format rounds to no more than that value; below half of the smallest value it rounds to a zero, and from 2 ^ 1024 on to an infinity. Assumes nothing.
+-- Rounding keeps the order of magnitudes: what is at most or at least a value of the format rounds to what is; below half of the smallest
+-- value it rounds to a zero, and from 2 ^ 1024 on to an infinity. Assumes nothing.
 use mathlib.Core.Path.{_≡_, refl, sym, ap, _∙_, subst}
 use Prim.Native.Nat.{ℕ, _-_, _*_, _^_, _≤_, _<_, zero-le}
-use native.Mathlib.Nat.{le-trans, le-of-eq, le-of-lt, lt-of-le-of-lt, le-antisymm, mul-one, mul-assoc, div-eq-of-lt}
+use native.Mathlib.Nat.{le-refl, le-trans, le-of-eq, le-of-lt, lt-of-le-of-lt, le-antisymm, mul-one, mul-assoc, div-eq-of-lt}
 use native.Mathlib.Omega.{arith}
 use mathlib.Core.Bool.{Bool, true, false, _&&_, _||_, true≢false}
 use lib.IntN.{pos}
@@ -9,19 +10,19 @@ use lib.Dec.{T, ltb, eqb, ltb→lt, eqb→eq}
 use lib.Pow.{pow-pos}
 use lib.Ieee.{Float, nan, inf, fin, Format, binary64, low, up, down, size, units, round, neg, le, fits}
 use lib.Ieee.Fits.{round-is}
-use lib.Ieee.Exact.{HasValue}
 use lib.Ieee.Nearest.{closest, closest-mono}
 use lib.Ieee.Order.{transfer, drop, round-mono}
 use lib.Ieee.Scale.{grid, overflow, finite}
 use lib.Ieee.Positive.{num, den, den-pos}
 use Rattle.arithmetic.specs.Basic.{isSignMinus}
-use Rattle.arithmetic.specs.Laws.Times.{cross, has-sign, has-finite}
-use Rattle.arithmetic.specs.Laws.Rounding.{round-value}
+use Rattle.arithmetic.specs.Laws.Times.{cross, has-sign, has-finite, neg-num, neg-den}
+use Rattle.arithmetic.specs.Laws.Rounding.{round-value, round-under}
 use Rattle.arithmetic.specs.Laws.Representable.{round-representable, grid-under}
 use Rattle.arithmetic.specs.Laws.Identities.{round-neg}
 
--- ---- at most a value of the format
-pub le-cross : (x y : Float) → T (finite x) → T (finite y) → isSignMinus x ≡ false → isSignMinus y ≡ false → T (le x y) → num x * den y ≤ num y * den x
+-- ---- an order of two values above zero, as one of fractions
+le-cross : (x y : Float) → T (finite x) → T (finite y) → isSignMinus x ≡ false → isSignMinus y ≡ false → T (le x y)
+    → num x * den y ≤ num y * den x
 unfolding le
 le-cross nan y p q s t h = absurd p
 le-cross (inf u) y p q s t h = absurd p
@@ -38,33 +39,71 @@ le-cross (fin false m e) (fin false n d) p q s t h =
     go false true f g t = g tt
     go false false f g t = absurd t
 
--- r has the sign s, and is v at most in size
+-- ---- rounding keeps the order of two magnitudes, so it does not pass a value of the format
+-- the magnitude is the same with either sign
+module _ (f : Format) (s : Bool) (a c : ℕ) where
+  round-num : num (round f s a c) ≡ num (round f false a c)
+  round-num = elim s [ false ↦ refl | true ↦ ap num (round-neg f false a c) ∙ neg-num (round f false a c) ]
+
+  round-den : den (round f s a c) ≡ den (round f false a c)
+  round-den = elim s [ false ↦ refl | true ↦ ap den (round-neg f false a c) ∙ neg-den (round f false a c) ]
+
+-- a / c and b / d do not overflow
+module _ (f : Format) (a c b d : ℕ) (C : 0 < c) (D : 0 < d) (A : grid f a c < overflow f) (B : grid f b d < overflow f) where
+  plain-order : a * d ≤ b * c → num (round f false a c) * den (round f false b d) ≤ num (round f false b d) * den (round f false a c)
+  plain-order h =
+      let R = round-value f false a c A in
+      let Z = round-value f false b d B in
+      let r = round f false a c in
+      let z = round f false b d in
+      let l = 2 ^ low f in
+      le-cross r z (has-finite r false (grid f a c) l R) (has-finite z false (grid f b d) l Z) (has-sign r false (grid f a c) l R)
+      (has-sign z false (grid f b d) l Z) (round-mono f a c b d C D h)
+
+-- v is a value of the format; rounding leaves it as it is
+module _ (f : Format) (s : Bool) (a c : ℕ) (v : Float) (C : 0 < c) (F : T (fits f v)) (p : T (finite v)) where
+  abbrev rounded : Float
+  rounded = round f s a c
+
+  abbrev v-rounded : Float
+  v-rounded = round f false (num v) (den v)
+
+  unchanged : num v * den v-rounded ≡ num v-rounded * den v
+  unchanged = sym (cross v-rounded false (num v) (den v) (round-representable f false v F p))
+
+  no-overflow : grid f (num v) (den v) < overflow f
+  no-overflow = grid-under f (num v) (den v) v (den-pos v) F p (le-refl (num v * den v))
+
+  not-above : grid f a c < overflow f → a * den v ≤ num v * c → num rounded * den v ≤ num v * den rounded
+  not-above A h =
+      transfer (num rounded) (num v) (den rounded) (den v) (num rounded) (num v-rounded) (den rounded) (den v-rounded)
+      (den-pos rounded) (den-pos v-rounded) refl unchanged
+      (rw (round-num f s a c, round-den f s a c) (plain-order f a c (num v) (den v) C (den-pos v) A no-overflow h))
+
+  pub round-at-least : T (finite rounded) → num v * c ≤ a * den v → num v * den rounded ≤ num rounded * den v
+  round-at-least t h =
+      transfer (num v) (num rounded) (den v) (den rounded) (num v-rounded) (num rounded) (den v-rounded) (den rounded)
+      (den-pos v-rounded) (den-pos rounded) unchanged refl
+      (rw (round-num f s a c, round-den f s a c) (plain-order f (num v) (den v) a c (den-pos v) C no-overflow (round-under f s a c t) h))
+
+-- r has the sign s, and a magnitude of at most v
 pub record AtMost (s : Bool) (v r : Float) : Type 0 where
   pub is-finite : T (finite r)
   pub sign : isSignMinus r ≡ s
   pub bound : num r * den v ≤ num v * den r
 
-pub round-at-most : (f : Format) (s : Bool) (a c : ℕ) (v : Float) → 0 < c → T (fits f v) → T (finite v) → a * den v ≤ num v * c → AtMost s v (round f s a c)
+pub round-at-most : (f : Format) (s : Bool) (a c : ℕ) (v : Float) → 0 < c → T (fits f v) → T (finite v) → a * den v ≤ num v * c
+    → AtMost s v (round f s a c)
 round-at-most f s a c v C F p h =
-    let g = grid f a c in
-    let l = 2 ^ low f in
-    let under : g < overflow f = grid-under f a c v C F p h in
-    let r = round f s a c in
-    let r0 = round f false a c in
-    let z = round f false (num v) (den v) in
-    let R : HasValue r s g l = round-value f s a c under in
-    let R0 : HasValue r0 false g l = round-value f false a c under in
-    let Z : HasValue z false (num v) (den v) = round-representable f false v F p in
-    let order : num r0 * den z ≤ num z * den r0 =
-    le-cross r0 z (has-finite r0 false g l R0) (has-finite z false (num v) (den v) Z) (has-sign r0 false g l R0) (has-sign z false (num v) (den v) Z) (round-mono f a c (num v) (den v) C (den-pos v) h) in
-    let whole : g * den v ≤ num v * l = transfer g (num v) l (den v) (num r0) (num z) (den r0) (den z) (den-pos r0) (den-pos z) (sym (cross r0 false g l R0)) (sym (cross z false (num v) (den v) Z)) order in
+    let under : grid f a c < overflow f = grid-under f a c v C F p h in
+    let value = round-value f s a c under in
     record {
-      is-finite = has-finite r s g l R;
-      sign = has-sign r s g l R;
-      bound = transfer (num r) (num v) (den r) (den v) g (num v) l (den v) (pow-pos (low f)) (den-pos v) (cross r s g l R) refl whole;
+      is-finite = has-finite (round f s a c) s (grid f a c) (2 ^ low f) value;
+      sign = has-sign (round f s a c) s (grid f a c) (2 ^ low f) value;
+      bound = not-above f s a c v C F p under h;
     }
 
--- ---- zeros and infinities
+-- ---- what rounds to a zero, and what to an infinity
 tie-zero : closest 1 2 ≡ 0
 tie-zero = refl
 
@@ -119,7 +158,8 @@ round-to-infinity s a c C h = go s
     plain : round binary64 false a c ≡ inf false
     plain =
         from-top (round binary64 false a c)
-        (subst (λ (z : Float). T (le z (round binary64 false a c))) top (round-mono binary64 (2 ^ 1024) 1 a c (pow-pos 0) C (le-trans h (le-of-eq (sym (mul-one a))))))
+        (subst (λ (z : Float). T (le z (round binary64 false a c))) top
+        (round-mono binary64 (2 ^ 1024) 1 a c (pow-pos 0) C (le-trans h (le-of-eq (sym (mul-one a))))))
 
     go : (s : Bool) → round binary64 s a c ≡ inf s
     go false = plain

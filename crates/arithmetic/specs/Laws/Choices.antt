@@ -8,6 +8,7 @@ pub in-both : {A : Type 0} (P : A → Type 0) (b : Bool) {x y : A} → P x → P
 in-both P true h g = h
 in-both P false h g = g
 
+-- and what holds of one side where the test is true, of the other where it is false
 pub by-test : {A : Type 0} (P : A → Type 0) (b : Bool) {x y : A} → (b ≡ true → P x) → (b ≡ false → P y) → P (cond b x y)
 by-test P true h g = h refl
 by-test P false h g = g refl

@@ -1,4 +1,4 @@
--- The factors of a product exchanged; the sign of what is rounded, and of a quotient. Assumes nothing.
+-- A product with its factors exchanged; a rounding and a quotient with the sign changed. Assumes nothing.
 use mathlib.Core.Path.{_≡_, refl, sym, ap, _∙_}
 use Prim.Native.Nat.{ℕ, zero, suc, _*_, _^_}
 use native.Mathlib.Nat.{mul-comm}

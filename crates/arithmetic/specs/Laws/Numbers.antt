@@ -2,7 +2,8 @@
 use mathlib.Core.Path.{_≡_, refl, sym, ap, _∙_, subst}
 use mathlib.Core.Logic.{_⊎_, inl, inr}
 use Prim.Native.Nat.{ℕ, zero, suc, _+_, _-_, _*_, _^_, _≤_, _<_, compare, Ordering, Ordering·lt, Ordering·eq, Ordering·gt}
-use native.Mathlib.Nat.{le-trans, le-of-eq, le-of-lt, lt-of-le-of-lt, mul-le-mul-left, le-antisymm, lt-of-lt-of-le, lt-of-not-le, le-of-suc-le-suc, not-le-of-lt, mul-comm, mul-assoc, mul-sub, mul-le-mul, mul-le-mul-right, mul-lt-mul-of-pos-right, lt-of-mul-lt-mul-right, pow-suc}
+use native.Mathlib.Nat.{le-trans, le-of-eq, le-of-lt, lt-of-le-of-lt, mul-le-mul-left, le-antisymm, lt-of-lt-of-le, lt-of-not-le, le-of-suc-le-suc}
+use native.Mathlib.Nat.{not-le-of-lt, mul-comm, mul-assoc, mul-sub, mul-le-mul, mul-le-mul-right, mul-lt-mul-of-pos-right, lt-of-mul-lt-mul-right, pow-suc}
 use native.Mathlib.Omega.{arith}
 use mathlib.Core.Bool.{Bool, true, false, not, true≢false}
 use lib.Dec.{T, isLe, isEq, ltb, ltb→lt, lt→ltb, nltb→le, leb→le, nleb→lt, eqb→eq}
@@ -14,7 +15,7 @@ use lib.Ieee.Digits.{size-lt, size-le, size-reaches}
 pub false-not : (b : Bool) → b ≡ false → T (not b)
 false-not b e = subst (λ (x : Bool). T (not x)) (sym e) tt
 
--- a test that the code denies, by what the tested call ensures
+-- a test that the code denies, by what the tested call ensures: `if !r`, with s for what r is ensured to be
 pub denied : (r s : Bool) → r ≡ s → not r ≡ true → s ≡ false
 denied true s e n = absurd (true≢false (sym n))
 denied false s e n = sym e
@@ -100,7 +101,7 @@ size-mul n e p =
 pub size-four : (n k : ℕ) → 0 < n → size (n * 4 ^ k) ≡ size n + 2 * k
 size-four n k p = ap (λ (x : ℕ). size (n * x)) (four k) ∙ size-mul n (2 * k) p
 
--- a number of at most p digits before its zeros, and p + t in all
+-- a number of at most p digits before its zeros, and p + t in all, is at most p ones before t zeros
 pub all-ones : (p t n j : ℕ) → n < 2 ^ p → n * 2 ^ j < 2 ^ (p + t) → n * 2 ^ j ≤ (2 ^ p - 1) * 2 ^ t
 all-ones p t n j few h = go (lt-or-le t j)
   where
@@ -109,4 +110,5 @@ all-ones p t n j few h = go (lt-or-le t j)
     go (inl l) =
         let i = j - t in
         let e : n * 2 ^ j ≡ n * 2 ^ i * 2 ^ t = ap (λ (x : ℕ). n * x) (sym (pow-split i t j (omega arith))) ∙ sym (mul-assoc n (2 ^ i) (2 ^ t)) in
-        le-trans (le-of-eq e) (mul-le-mul-right (2 ^ t) (le-ones p (lt-of-mul-lt-mul-right (2 ^ t) (subst (λ (x : ℕ). x < 2 ^ p * 2 ^ t) e (lt-of-lt-of-le h (le-of-eq (pow-add 2 p t)))))))
+        let under : n * 2 ^ i * 2 ^ t < 2 ^ p * 2 ^ t = subst (λ (x : ℕ). x < 2 ^ p * 2 ^ t) e (lt-of-lt-of-le h (le-of-eq (pow-add 2 p t))) in
+        le-trans (le-of-eq e) (mul-le-mul-right (2 ^ t) (le-ones p (lt-of-mul-lt-mul-right (2 ^ t) under)))

@@ -1,8 +1,9 @@
--- `scaleB`, by products: one with 2 ^ k, where 2 ^ k is a value; or one with 2 or with 1 / 2 before it, for the power on either side of those. Assumes nothing.
--- A power is written 2 ^ e / 2 ^ 1075, so that e is a natural number.
+-- `scaleB` by products: one with 2 ^ k, where that is a value of the format; or one with 2 or 1 / 2 before it, for the power above and the power
+-- below those. A power is written 2 ^ e / 2 ^ 1075, so that e is a natural number. Assumes nothing.
 use mathlib.Core.Path.{_≡_, refl, sym, ap, _∙_, subst}
 use Prim.Native.Nat.{ℕ, zero, suc, _+_, _*_, _^_, _≤_, _<_}
-use native.Mathlib.Nat.{le-trans, le-of-lt, le-suc, mul-le-mul-left, le-of-eq, lt-of-le-of-lt, mul-one, one-mul, mul-assoc, mul-comm, mul-left-comm, mul-right-comm, mul-mul-mul-comm, mul-pos, mul-le-mul, mul-le-mul-right, mul-lt-mul-of-pos-right, le-of-mul-le-mul-right}
+use native.Mathlib.Nat.{le-trans, le-of-lt, le-suc, mul-le-mul-left, le-of-eq, lt-of-le-of-lt, mul-one, one-mul, mul-assoc, mul-comm, mul-left-comm}
+use native.Mathlib.Nat.{mul-right-comm, mul-mul-mul-comm, mul-pos, mul-le-mul, mul-le-mul-right, mul-lt-mul-of-pos-right, le-of-mul-le-mul-right}
 use native.Mathlib.Omega.{arith}
 use mathlib.Core.Bool.{Bool, true, false, not, cond}
 use lib.IntN.{ℤ, negsuc}
@@ -23,21 +24,22 @@ use Rattle.arithmetic.specs.Laws.Patterns.{subnormal, built}
 use Rattle.arithmetic.specs.Laws.Representable.{representable}
 use Rattle.arithmetic.specs.Laws.Bounds.{AtMost, round-at-most, round-to-zero, round-to-infinity}
 
--- ---- `scaleB` of any fraction that y equals
+-- ---- `scaleB` of y, by any fraction that y equals
 scaleB-fin : (s : Bool) (m : ℕ) (e : ℤ) (k : ℤ) → scaleB (fin s m e) k ≡ round binary64 s (m * up e * up k) (down e * down k)
 unfolding scaleB
 scaleB-fin s m e k = refl
 
--- a / c times u / d, in two ways
+-- products of equal fractions: n / l = a / c and u / d = p / q
 in-proportion : (n l a c u d p q : ℕ) → n * c ≡ a * l → u * q ≡ p * d → n * u * (c * q) ≡ a * p * (l * d)
 in-proportion n l a c u d p q e g = mul-mul-mul-comm n u c q ∙ ap (λ (z : ℕ). z * (u * q)) e ∙ ap (λ (z : ℕ). a * l * z) g ∙ mul-mul-mul-comm a l p d
 
-pub scaleB-at : (y : Float) (s : Bool) (a c e : ℕ) → 0 < c → HasValue y s a c → scaleB y (minus e 1075) ≡ round binary64 s (a * 2 ^ e) (c * 2 ^ 1075)
+scaleB-at : (y : Float) (s : Bool) (a c e : ℕ) → 0 < c → HasValue y s a c → scaleB y (minus e 1075) ≡ round binary64 s (a * 2 ^ e) (c * 2 ^ 1075)
 scaleB-at nan s a c e C h = absurd h
 scaleB-at (inf t) s a c e C h = absurd h
 scaleB-at (fin t m d) s a c e C h =
     let k = minus e 1075 in
-    let power : up k * 2 ^ 1075 ≡ 2 ^ e * down k = ap (λ (z : ℕ). z * 2 ^ 1075) (sym (one-mul (up k))) ∙ minus-val 1 e 1075 ∙ ap (λ (z : ℕ). z * down k) (one-mul (2 ^ e)) in
+    let power : up k * 2 ^ 1075 ≡ 2 ^ e * down k =
+    ap (λ (z : ℕ). z * 2 ^ 1075) (sym (one-mul (up k))) ∙ minus-val 1 e 1075 ∙ ap (λ (z : ℕ). z * down k) (one-mul (2 ^ e)) in
     scaleB-fin t m d k
     ∙ ap (λ (b : Bool). round binary64 b (m * up d * up k) (down d * down k)) (h .0)
     ∙ round-same binary64 s (m * up d * up k) (down d * down k) (a * 2 ^ e) (c * 2 ^ 1075) (mul-pos (down-pos d) (down-pos k)) (mul-pos C (pow-pos 1075))
@@ -57,7 +59,8 @@ times-inf s (fin false zero e) h = absurd h
 times-inf s (fin false (suc m) e) h = ap (λ (b : Bool). cond b nan (inf (unlike s false))) (eqb·suc-zero m) ∙ ap inf (unlike-false s)
 
 -- a finite y times b / d
-pub times-fraction : (y p : Float) (b d : ℕ) → T (finite y) → 0 < b → 0 < d → HasValue p false b d → y ⊗ p ≡ round binary64 (isSignMinus y) (num y * b) (den y * d)
+pub times-fraction : (y p : Float) (b d : ℕ) → T (finite y) → 0 < b → 0 < d → HasValue p false b d
+    → y ⊗ p ≡ round binary64 (isSignMinus y) (num y * b) (den y * d)
 times-fraction y p b d h B D v =
     mul-is binary64 y p h (positive-finite p (positive-of-value p b d v B))
     ∙ ap (λ (s : Bool). round binary64 (unlike (isSignMinus y) s) (num y * num p) (den y * den p)) (has-sign p false b d v)
@@ -73,7 +76,8 @@ times-power (fin s m d) p e v =
     times-fraction (fin s m d) p (2 ^ e) (2 ^ 1075) tt (pow-pos e) (pow-pos 1075) v
     ∙ sym (scaleB-at (fin s m d) s (m * up d) (down d) e (down-pos d) (refl, refl))
 
--- ---- with 2 or 1 / 2 first, which is exact but at the ends of the range: an infinite double stays infinite, and what a half loses is far below what the result keeps
+-- ---- with 2 or 1 / 2 first, which is exact but at the ends of the range: an infinite double stays infinite, and what a half loses is far
+-- below what the result keeps
 two-value : HasValue two false 2 1
 unfolding ofBits
 two-value = (refl, refl)
@@ -117,7 +121,8 @@ module _ (s : Bool) (n l q j : ℕ) (L : 0 < l) (few : q < 2 ^ 53) (exact : n * 
   exact-first : (b c i e e' : ℕ) → 0 < c → b * 2 ^ j ≡ 2 ^ i * c → b * 2 ^ e ≡ 2 ^ e' * c → q * 2 ^ i < 2 ^ 2098
       → scaleB (round binary64 s (n * b) (l * c)) (minus e 1075) ≡ round binary64 s (n * 2 ^ e') (l * 2 ^ 1075)
   exact-first b c i e e' C h g u =
-      scaleB-at (round binary64 s (n * b) (l * c)) s (n * b) (l * c) e (mul-pos L C) (round-exact binary64 s (n * b) (l * c) q i (mul-pos L C) few u (in-smallest b c i h))
+      scaleB-at (round binary64 s (n * b) (l * c)) s (n * b) (l * c) e (mul-pos L C)
+      (round-exact binary64 s (n * b) (l * c) q i (mul-pos L C) few u (in-smallest b c i h))
       ∙ round-same binary64 s (n * b * 2 ^ e) (l * c * 2 ^ 1075) (n * 2 ^ e') (l * 2 ^ 1075) (mul-pos (mul-pos L C) (pow-pos 1075)) (mul-pos L (pow-pos 1075))
       (ap (λ (z : ℕ). z * (l * 2 ^ 1075)) (mul-assoc n b (2 ^ e) ∙ ap (λ (z : ℕ). n * z) g) ∙ regroup n (2 ^ e') c l (2 ^ 1075))
     where
@@ -145,7 +150,8 @@ module _ (s : Bool) (n l q j : ℕ) (L : 0 < l) (few : q < 2 ^ 53) (exact : n * 
   vanishes : n * 4 ≤ l → scaleB (round binary64 s (n * 1) (l * 2)) (minus 1 1075) ≡ round binary64 s (n * 2 ^ 0) (l * 2 ^ 1075)
   vanishes small =
       let r = round binary64 s (n * 1) (l * 2) in
-      let b : AtMost s (fin false 1 (negsuc 1)) r = round-at-most binary64 s (n * 1) (l * 2) (fin false 1 (negsuc 1)) (mul-pos L (pow-pos 1)) quarter-fits tt (first n l small) in
+      let b : AtMost s (fin false 1 (negsuc 1)) r =
+      round-at-most binary64 s (n * 1) (l * 2) (fin false 1 (negsuc 1)) (mul-pos L (pow-pos 1)) quarter-fits tt (first n l small) in
       scaleB-at r s (num r) (den r) 1 (den-pos r) (of-cross r s (num r) (den r) (b .is-finite) (b .sign) refl)
       ∙ round-to-zero s (num r * 2 ^ 1) (den r * 2 ^ 1075) (mul-lt-mul-of-pos-right (second (num r) (den r) (b .bound) (den-pos r)) (pow-pos 1075))
       ∙ sym (round-to-zero s (n * 2 ^ 0) (l * 2 ^ 1075) (mul-lt-mul-of-pos-right (third n l small L) (pow-pos 1075)))
@@ -162,7 +168,8 @@ module _ (s : Bool) (n l q j : ℕ) (L : 0 < l) (few : q < 2 ^ 53) (exact : n * 
 halved-at : (s : Bool) (n l q j : ℕ) → 0 < l → q < 2 ^ 53 → n * 2 ^ 1074 ≡ q * 2 ^ j * l → q * 2 ^ j < 2 ^ 2098
     → scaleB (round binary64 s (n * 1) (l * 2)) (minus 1 1075) ≡ round binary64 s (n * 2 ^ 0) (l * 2 ^ 1075)
 halved-at s n l q zero L few exact u = vanishes s n l q 0 L few exact (quarter n l q exact few)
-halved-at s n l q (suc i) L few exact u = exact-first s n l q (suc i) L few exact 1 2 i 1 0 (pow-pos 1) before refl (lt-of-le-of-lt (mul-le-mul-left q (pow-mono (le-suc i))) u)
+halved-at s n l q (suc i) L few exact u =
+    exact-first s n l q (suc i) L few exact 1 2 i 1 0 (pow-pos 1) before refl (lt-of-le-of-lt (mul-le-mul-left q (pow-mono (le-suc i))) u)
   where
     next : (i : ℕ) → suc i ≡ i + 1
     next i = omega arith
@@ -203,10 +210,12 @@ one-place-up w i h =
 pub low-power : (i : ℕ) → i < 52 → HasValue (ofBits binary64 (2 ^ i)) false (2 ^ (1 + i)) (2 ^ 1075)
 low-power i h =
     subst (λ (x : Float). HasValue x false (2 ^ (1 + i)) (2 ^ 1075)) (sym (subnormal (2 ^ i) (pow-lt h)))
-    (rescale (odd 53 false (2 ^ i) 0 1074) false (2 ^ i * 2 ^ 0) (2 ^ 1074) (2 ^ (1 + i)) (2 ^ 1075) (pow-pos 1074) (one-place-up (2 ^ i * 2 ^ 0) i (mul-one (2 ^ i))) (odd-sign 53 false (2 ^ i) 0 1074))
+    (rescale (odd 53 false (2 ^ i) 0 1074) false (2 ^ i * 2 ^ 0) (2 ^ 1074) (2 ^ (1 + i)) (2 ^ 1075) (pow-pos 1074)
+    (one-place-up (2 ^ i * 2 ^ 0) i (mul-one (2 ^ i))) (odd-sign 53 false (2 ^ i) 0 1074))
 
 -- from there on the exponent's field says which power it is
 pub high-power : (k : ℕ) → k < 2046 → HasValue (ofBits binary64 (k * 2 ^ 52 + 2 ^ 52)) false (2 ^ (1 + (52 + k))) (2 ^ 1075)
 high-power k h =
     subst (λ (x : Float). HasValue x false (2 ^ (1 + (52 + k))) (2 ^ 1075)) (sym (built k (2 ^ 52) h (lit≤ tt) (lit< tt)))
-    (rescale (odd 53 false (2 ^ 52) k 1074) false (2 ^ 52 * 2 ^ k) (2 ^ 1074) (2 ^ (1 + (52 + k))) (2 ^ 1075) (pow-pos 1074) (one-place-up (2 ^ 52 * 2 ^ k) (52 + k) (sym (pow-add 2 52 k))) (odd-sign 53 false (2 ^ 52) k 1074))
+    (rescale (odd 53 false (2 ^ 52) k 1074) false (2 ^ 52 * 2 ^ k) (2 ^ 1074) (2 ^ (1 + (52 + k))) (2 ^ 1075) (pow-pos 1074)
+    (one-place-up (2 ^ 52 * 2 ^ k) (52 + k) (sym (pow-add 2 52 k))) (odd-sign 53 false (2 ^ 52) k 1074))

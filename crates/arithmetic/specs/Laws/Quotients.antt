@@ -1,24 +1,27 @@
--- Quotients that are numbers: of a number by one that is finite and above zero; and 2 / √x, which is finite and at least 2 ^ -1022 for every x that is finite and above zero. Assumes nothing.
+-- Quotients that are no NaN: of a number by one that is finite and above zero; and 2 / √x, which is finite and at least 2 ^ -1022 for every x
+-- that is finite and above zero. Assumes nothing.
 use mathlib.Core.Path.{_≡_, refl, sym, ap, _∙_, subst}
-use Prim.Native.Nat.{ℕ, zero, suc, _+_, _*_, _^_, _≤_, _<_}
-use native.Mathlib.Nat.{le-trans, le-of-eq, le-of-lt, le-of-suc-le-suc, one-mul, mul-one, mul-assoc, mul-comm, mul-right-comm, mul-le-mul, mul-le-mul-left, mul-le-mul-right, le-of-mul-le-mul-right}
-use mathlib.Core.Bool.{Bool, true, false, cond, true≢false, false≢true}
+use Prim.Native.Nat.{ℕ, zero, suc, _*_, _^_, _≤_, _<_}
+use native.Mathlib.Nat.{le-trans, le-of-eq, le-of-lt, le-of-suc-le-suc, one-mul, mul-one, mul-assoc, mul-comm, mul-right-comm, mul-le-mul}
+use native.Mathlib.Nat.{mul-le-mul-left, mul-le-mul-right, le-of-mul-le-mul-right}
+use mathlib.Core.Bool.{Bool, true, false, true≢false, false≢true}
 use lib.IntN.{pos}
 use lib.Dec.{T, lit≤, ltb}
 use lib.Pow.{pow-pos, pow-mono}
-use lib.Ieee.{Float, nan, inf, fin, Format, binary64, prec, low, emax, up, down, unlike, odd, units, round, div, le, isNan, fits, ofBits}
+use lib.Ieee.{Float, nan, inf, fin, Format, binary64, prec, low, up, down, unlike, odd, units, round, div, le, isNan, fits, ofBits}
 use lib.Ieee.Fits.{div-fits}
 use lib.Ieee.Order.{round-mono}
-use lib.Ieee.Scale.{finite}
-use lib.Ieee.Positive.{num, den, den-pos, positive, own-value, value-pos, value→cross}
+use lib.Ieee.Scale.{finite, overflow}
+use lib.Ieee.Positive.{num, den, positive, value→cross}
 use Rattle.arithmetic.specs.Operations.{_⊘_, two, minPositive}
 use Rattle.arithmetic.specs.Sqrt.{sqrt}
-use Rattle.arithmetic.specs.Laws.Times.{positive-sign}
+use Rattle.arithmetic.specs.Laws.Choices.{in-both}
+use Rattle.arithmetic.specs.Laws.Times.{positive-sign, num-positive}
 use Rattle.arithmetic.specs.Laws.Representable.{grid-under}
 use Rattle.arithmetic.specs.Laws.Sums.{round-finite}
 use Rattle.arithmetic.specs.Laws.Products.{div-is}
 use Rattle.arithmetic.specs.Laws.ScaledRatios.{PositiveNormal, minPositive-is, positive-zero}
-use Rattle.arithmetic.specs.Laws.SqrtNearest.{sqrt-is-nearest}
+use Rattle.arithmetic.specs.Laws.SqrtNearest.{NearestRoot, sqrt-is-nearest}
 use Rattle.arithmetic.specs.Laws.SqrtBounds.{sqrt-finite, sqrt-positive}
 
 -- ---- what is no NaN
@@ -29,13 +32,10 @@ odd-no-nan d s (suc q) k l = refl
 
 units-no-nan : (f : Format) (s : Bool) (q k : ℕ) → isNan (units f s q k) ≡ false
 unfolding units isNan
-units-no-nan f s q k = go (ltb (q * 2 ^ k) (2 ^ (low f + suc (emax f))))
-  where
-    go : (b : Bool) → isNan (cond b (odd (suc (prec f)) s q k (low f)) (inf s)) ≡ false
-    go true = odd-no-nan (suc (prec f)) s q k (low f)
-    go false = refl
+units-no-nan f s q k =
+    in-both (λ (z : Float). isNan z ≡ false) (ltb (q * 2 ^ k) (overflow f)) (odd-no-nan (suc (prec f)) s q k (low f)) refl
 
-pub round-no-nan : (f : Format) (s : Bool) (a c : ℕ) → isNan (round f s a c) ≡ false
+round-no-nan : (f : Format) (s : Bool) (a c : ℕ) → isNan (round f s a c) ≡ false
 unfolding round
 round-no-nan f s a c = units-no-nan f s _ _
 
@@ -48,9 +48,6 @@ at-least-no-nan x (inf t) h = refl
 at-least-no-nan x (fin t n d) h = refl
 
 -- ---- a number over a value that is finite and above zero
-pub num-positive : (x : Float) → T (positive x) → 0 < num x
-num-positive x p = value-pos x (num x) (den x) p (den-pos x) (own-value x p)
-
 pub div-no-nan : (f : Format) (v r : Float) → isNan v ≡ false → T (positive r) → isNan (div f v r) ≡ false
 unfolding div isNan
 div-no-nan f v nan h p = absurd p
@@ -71,53 +68,73 @@ most-fits : T (fits binary64 most)
 unfolding fits
 most-fits = tt
 
--- n / d is a root, g units
+-- n / d is the root, of g units
 not-over : (n d g : ℕ) → n * 2 ^ 1074 ≡ g * d → 2 ^ 52 ≤ g → 2 * d * 1 ≤ 1 * 2 ^ 1023 * (n * 1)
 not-over n d g e h =
     le-of-mul-le-mul-right
-    (le-trans (le-of-eq (left d)) (le-trans (mul-le-mul-right d (mul-le-mul-right (2 ^ 1023) h)) (le-of-eq (mul-right-comm g (2 ^ 1023) d ∙ ap (λ (z : ℕ). z * 2 ^ 1023) (sym e) ∙ right n))))
+    (le-trans (le-of-eq (left d))
+    (le-trans (mul-le-mul-right d (mul-le-mul-right (2 ^ 1023) h))
+    (le-of-eq (mul-right-comm g (2 ^ 1023) d ∙ ap (λ (z : ℕ). z * 2 ^ 1023) (sym e) ∙ right n))))
     (pow-pos 1074)
   where
     left : (d : ℕ) → 2 * d * 1 * 2 ^ 1074 ≡ 2 ^ 52 * 2 ^ 1023 * d
     left d = ap (λ (z : ℕ). z * 2 ^ 1074) (mul-one (2 * d)) ∙ mul-right-comm 2 d (2 ^ 1074)
 
     right : (n : ℕ) → n * 2 ^ 1074 * 2 ^ 1023 ≡ 1 * 2 ^ 1023 * (n * 1) * 2 ^ 1074
-    right n = (let r : n * 2 ^ 1074 * 2 ^ 1023 ≡ 2 ^ 1023 * n * 2 ^ 1074 = simp (mul-assoc, mul-comm) in r) ∙ ap (λ (z : ℕ). 2 ^ 1023 * z * 2 ^ 1074) (sym (mul-one n))
+    right n =
+        (let r : n * 2 ^ 1074 * 2 ^ 1023 ≡ 2 ^ 1023 * n * 2 ^ 1074 = simp (mul-assoc, mul-comm) in r)
+        ∙ ap (λ (z : ℕ). 2 ^ 1023 * z * 2 ^ 1074) (sym (mul-one n))
 
 not-under : (n d g : ℕ) → n * 2 ^ 1074 ≡ g * d → g ≤ 2 ^ 1586 → 1 * (n * 1) ≤ 2 * d * 2 ^ 1022
 not-under n d g e h =
     le-of-mul-le-mul-right
-    (le-trans (le-of-eq (ap (λ (z : ℕ). z * 2 ^ 1074) (one-mul (n * 1) ∙ mul-one n) ∙ e)) (le-trans (mul-le-mul-right d (le-trans h (lit≤ tt))) (le-of-eq (right d))))
+    (le-trans (le-of-eq (ap (λ (z : ℕ). z * 2 ^ 1074) (one-mul (n * 1) ∙ mul-one n) ∙ e))
+    (le-trans (mul-le-mul-right d (le-trans h (lit≤ tt))) (le-of-eq (right d))))
     (pow-pos 1074)
   where
     right : (d : ℕ) → 2 * 2 ^ 2096 * d ≡ 2 * d * 2 ^ 1022 * 2 ^ 1074
     right d = mul-right-comm 2 (2 ^ 2096) d ∙ sym (mul-assoc (2 * d) (2 ^ 1022) (2 ^ 1074))
 
-pub two-over-root : (x : Float) → T (positive x) → T (fits binary64 x) → PositiveNormal (two ⊘ sqrt x)
-unfolding ofBits
-two-over-root x p F = record {
-  held = div-fits binary64 two (sqrt x);
-  bounded = subst (λ (z : Float). T (finite z)) (sym is) (round-finite binary64 false (2 * den (sqrt x)) (num (sqrt x) * 1) (grid-under binary64 (2 * den (sqrt x)) (num (sqrt x) * 1) most low' most-fits tt (not-over (num (sqrt x)) (den (sqrt x)) g e lower)));
-  large =
-      subst (λ (z : Float). T (le minPositive z)) (sym is)
-      (subst (λ (z : Float). T (le z (round binary64 false (2 * den (sqrt x)) (num (sqrt x) * 1)))) minPositive-is
-      (round-mono binary64 1 (2 ^ 1022) (2 * den (sqrt x)) (num (sqrt x) * 1) (pow-pos 1022) low' (not-under (num (sqrt x)) (den (sqrt x)) g e upper)));
-}
-  where
-    g : ℕ
-    g = sqrt-is-nearest x p F .q * 2 ^ sqrt-is-nearest x p F .k
+-- with n / d for √x, which is g units
+module _ (x : Float) (p : T (positive x)) (F : T (fits binary64 x)) where
+  abbrev root : NearestRoot x (sqrt x)
+  root = sqrt-is-nearest x p F
 
-    e : num (sqrt x) * 2 ^ 1074 ≡ g * den (sqrt x)
-    e = value→cross (sqrt x) g (2 ^ 1074) (sqrt-is-nearest x p F .root-value)
+  abbrev n : ℕ
+  n = num (sqrt x)
 
-    lower : 2 ^ 52 ≤ g
-    lower = le-trans (sqrt-is-nearest x p F .q-low) (le-trans (le-of-eq (sym (mul-one (sqrt-is-nearest x p F .q)))) (mul-le-mul-left (sqrt-is-nearest x p F .q) (pow-pos (sqrt-is-nearest x p F .k))))
+  abbrev d : ℕ
+  d = den (sqrt x)
 
-    upper : g ≤ 2 ^ 1586
-    upper = mul-le-mul (le-of-lt (sqrt-is-nearest x p F .q-high)) (pow-mono (le-of-suc-le-suc (sqrt-is-nearest x p F .k-lt)))
+  abbrev g : ℕ
+  g = root .q * 2 ^ root .k
 
-    low' : 0 < num (sqrt x) * 1
-    low' = subst (λ (z : ℕ). 0 < z) (sym (mul-one (num (sqrt x)))) (num-positive (sqrt x) (sqrt-positive x p F))
+  cross : n * 2 ^ 1074 ≡ g * d
+  cross = value→cross (sqrt x) g (2 ^ 1074) (root .root-value)
 
-    is : two ⊘ sqrt x ≡ round binary64 false (2 * den (sqrt x)) (num (sqrt x) * 1)
-    is = div-is binary64 two (sqrt x) tt (sqrt-finite x p F) ∙ rw (positive-sign (sqrt x) (sqrt-positive x p F), positive-zero (num (sqrt x)) (num-positive (sqrt x) (sqrt-positive x p F)))
+  lower : 2 ^ 52 ≤ g
+  lower = le-trans (root .q-low) (le-trans (le-of-eq (sym (mul-one (root .q)))) (mul-le-mul-left (root .q) (pow-pos (root .k))))
+
+  upper : g ≤ 2 ^ 1586
+  upper = mul-le-mul (le-of-lt (root .q-high)) (pow-mono (le-of-suc-le-suc (root .k-lt)))
+
+  some : 0 < n * 1
+  some = subst (λ (z : ℕ). 0 < z) (sym (mul-one n)) (num-positive (sqrt x) (sqrt-positive x p F))
+
+  quotient-is : two ⊘ sqrt x ≡ round binary64 false (2 * d) (n * 1)
+  unfolding ofBits
+  quotient-is =
+      div-is binary64 two (sqrt x) tt (sqrt-finite x p F)
+      ∙ rw (positive-sign (sqrt x) (sqrt-positive x p F), positive-zero n (num-positive (sqrt x) (sqrt-positive x p F)))
+
+  pub two-over-root : PositiveNormal (two ⊘ sqrt x)
+  two-over-root = record {
+    held = div-fits binary64 two (sqrt x);
+    bounded =
+        subst (λ (z : Float). T (finite z)) (sym quotient-is)
+        (round-finite binary64 false (2 * d) (n * 1) (grid-under binary64 (2 * d) (n * 1) most some most-fits tt (not-over n d g cross lower)));
+    large =
+        subst (λ (z : Float). T (le minPositive z)) (sym quotient-is)
+        (subst (λ (z : Float). T (le z (round binary64 false (2 * d) (n * 1)))) minPositive-is
+        (round-mono binary64 1 (2 ^ 1022) (2 * d) (n * 1) (pow-pos 1022) some (not-under n d g cross upper)));
+  }

@@ -2,7 +2,8 @@
 -- Nothing here is about floats. Assumes nothing.
 use mathlib.Core.Path.{_≡_, sym, ap, _∙_, subst}
 use Prim.Native.Nat.{ℕ, _+_, _-_, _*_, _≤_, _<_}
-use native.Mathlib.Nat.{zero-mul, mul-assoc, mul-comm, mul-left-comm, mul-right-comm, add-mul, mul-lt-mul-of-pos-right, lt-of-mul-lt-mul-right, le-of-mul-le-mul-right, mul-le-mul-right, eq-of-mul-eq-mul-right}
+use native.Mathlib.Nat.{zero-mul, mul-assoc, mul-comm, mul-left-comm, mul-right-comm, add-mul, mul-lt-mul-of-pos-right, lt-of-mul-lt-mul-right}
+use native.Mathlib.Nat.{le-of-mul-le-mul-right, mul-le-mul-right, eq-of-mul-eq-mul-right}
 use lib.Dec.{T, leb, ltb, eqb, leb→le, le→leb, eqb→eq, eqb-refl}
 use Rattle.arithmetic.specs.Laws.Numbers.{same-test, same-ltb, sub-mul}
 
@@ -17,7 +18,10 @@ module _ (p q : ℕ) (P : 0 < p) (Q : 0 < q) where
   ltb-ratio a b a' b' e g = same-ltb a' b' a b (lt-onto a b a' b' p q P e g) (lt-onto a' b' a b q p Q (sym e) (sym g))
 
   pub leb-ratio : (a b a' b' : ℕ) → a' * p ≡ a * q → b' * p ≡ b * q → leb a' b' ≡ leb a b
-  leb-ratio a b a' b' e g = same-test (leb a' b') (leb a b) (λ t. le→leb a b (le-onto a b a' b' p q Q e g (leb→le a' b' t))) (λ t. le→leb a' b' (le-onto a' b' a b q p P (sym e) (sym g) (leb→le a b t)))
+  leb-ratio a b a' b' e g =
+      same-test (leb a' b') (leb a b)
+      (λ t. le→leb a b (le-onto a b a' b' p q Q e g (leb→le a' b' t)))
+      (λ t. le→leb a' b' (le-onto a' b' a b q p P (sym e) (sym g) (leb→le a b t)))
 
   pub eqb-ratio : (a b a' b' : ℕ) → a' * p ≡ a * q → b' * p ≡ b * q → eqb a' b' ≡ eqb a b
   eqb-ratio a b a' b' e g =

@@ -1,5 +1,5 @@
--- A finite value of a format is q * 2 ^ j of its smallest values, with q of no more digits than the format keeps, so rounding leaves it as it is; and what is no larger than such a value does not overflow.
--- Assumes nothing.
+-- A finite value of a format is representable: q * 2 ^ j of the smallest values, with q of no more digits than the format keeps. So rounding
+-- leaves it as it is; and what is no larger than such a value does not overflow. Assumes nothing.
 use mathlib.Core.Path.{_≡_, sym, ap, _∙_, subst}
 use Prim.Native.Nat.{ℕ, zero, suc, _+_, _-_, _*_, _%_, _^_, _≤_, _<_}
 use native.Mathlib.Nat.{mul-one, zero-mul, mul-assoc, mul-comm, add-sub-of-le, mul-lt-mul-of-pos-right, lt-of-mul-lt-mul-right, eq-of-mul-eq-mul-right}
@@ -19,7 +19,7 @@ use Rattle.arithmetic.specs.Laws.Patterns.{value-unique}
 use Rattle.arithmetic.specs.Laws.Times.{has-finite, cross}
 use Rattle.arithmetic.specs.Laws.Rounding.{Whole, round-under}
 
--- x, a finite value of the format, in its smallest values
+-- x is digits * 2 ^ place of the format's smallest values
 pub record Representable (f : Format) (x : Float) : Type 0 where
   pub digits : ℕ
   pub place : ℕ
@@ -45,7 +45,9 @@ top f m e h b =
     lt-of-mul-lt-mul-right (down e)
     (subst (λ (z : ℕ). z < overflow f * down e) (placed f m e h)
     (subst (λ (z : ℕ). m * up e * 2 ^ low f < z)
-    (mul-comm (2 ^ suc (emax f) * down e) (2 ^ low f) ∙ sym (mul-assoc (2 ^ low f) (2 ^ suc (emax f)) (down e)) ∙ ap (λ (z : ℕ). z * down e) (sym (pow-add 2 (low f) (suc (emax f)))))
+    (mul-comm (2 ^ suc (emax f) * down e) (2 ^ low f)
+    ∙ sym (mul-assoc (2 ^ low f) (2 ^ suc (emax f)) (down e))
+    ∙ ap (λ (z : ℕ). z * down e) (sym (pow-add 2 (low f) (suc (emax f)))))
     (mul-lt-mul-of-pos-right b (pow-pos (low f)))))
 
 pub representable : (f : Format) (x : Float) → T (fits f x) → T (finite x) → Representable f x
@@ -77,28 +79,35 @@ pub whole : (f : Format) (x : Float) → T (fits f x) → T (finite x) → Whole
 whole f x h p = (representable f x h p .digits * 2 ^ representable f x h p .place, representable f x h p .exact)
 
 pub round-representable : (f : Format) (s : Bool) (x : Float) → T (fits f x) → T (finite x) → HasValue (round f s (num x) (den x)) s (num x) (den x)
-round-representable f s x h p = let o = representable f x h p in round-exact f s (num x) (den x) (o .digits) (o .place) (den-pos x) (o .few) (o .under) (o .exact)
+round-representable f s x h p =
+    let o = representable f x h p in
+    round-exact f s (num x) (den x) (o .digits) (o .place) (den-pos x) (o .few) (o .under) (o .exact)
 
 -- so a fraction that equals a value of the format is rounded to that value
 pub round-self : (f : Format) (x : Float) (s : Bool) (a c : ℕ) → 0 < c → T (fits f x) → HasValue x s a c → round f s a c ≡ x
 round-self f x s a c C h v =
     let o = representable f x h (has-finite x s a c v) in
-    value-unique f (round f s a c) x s a c C (round-fits f s a c) h
-    (round-exact f s a c (o .digits) (o .place) C (o .few) (o .under) (same-fraction (num x) (den x) a c (o .digits * 2 ^ o .place) (2 ^ low f) (den-pos x) (cross x s a c v) (o .exact))) v
+    let n = o .digits * 2 ^ o .place in
+    let units : a * 2 ^ low f ≡ n * c = same-fraction (num x) (den x) a c n (2 ^ low f) (den-pos x) (cross x s a c v) (o .exact) in
+    value-unique f (round f s a c) x s a c C (round-fits f s a c) h (round-exact f s a c (o .digits) (o .place) C (o .few) (o .under) units) v
 
 -- a value of n of the format's smallest values
 pub value-under : (f : Format) (x : Float) (s : Bool) (n : ℕ) → T (fits f x) → HasValue x s n (2 ^ low f) → n < overflow f
 value-under f x s n h v =
     let o = representable f x h (has-finite x s n (2 ^ low f) v) in
-    subst (λ (z : ℕ). z < overflow f) (eq-of-mul-eq-mul-right (den x) (den-pos x) (o .digits * 2 ^ o .place) n (sym (o .exact) ∙ cross x s n (2 ^ low f) v)) (o .under)
+    let m = o .digits * 2 ^ o .place in
+    subst (λ (z : ℕ). z < overflow f) (eq-of-mul-eq-mul-right (den x) (den-pos x) m n (sym (o .exact) ∙ cross x s n (2 ^ low f) v)) (o .under)
 
 -- ---- no overflow
 below-finite : (f : Format) (q k : ℕ) (z : Float) → T (finite z) → T (le (units f false q k) z) → T (finite (units f false q k))
 unfolding units
 below-finite f q k z p = go (ltb (q * 2 ^ k) (overflow f)) z p
   where
-    go : (b : Bool) (z : Float) → T (finite z) → T (le (cond b (odd (suc (prec f)) false q k (low f)) (inf false)) z) → T (finite (cond b (odd (suc (prec f)) false q k (low f)) (inf false)))
-    go true z p h = has-finite (odd (suc (prec f)) false q k (low f)) false (q * 2 ^ k) (2 ^ low f) (odd-sign (suc (prec f)) false q k (low f))
+    value : Float
+    value = odd (suc (prec f)) false q k (low f)
+
+    go : (b : Bool) (z : Float) → T (finite z) → T (le (cond b value (inf false)) z) → T (finite (cond b value (inf false)))
+    go true z p h = has-finite value false (q * 2 ^ k) (2 ^ low f) (odd-sign (suc (prec f)) false q k (low f))
     go false nan p h = absurd p
     go false (inf s) p h = absurd p
     go false (fin s m e) p h = unfold le in h

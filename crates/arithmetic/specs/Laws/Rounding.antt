@@ -1,9 +1,11 @@
--- `round` at 2 ^ k times a fraction is 2 ^ k times `round` at the fraction, where the fraction is in the normal range or a whole number of the format's smallest values, and the larger result is finite.
--- In the second case no digit is lost below the normal range, and from there on both round alike. Assumes nothing.
+-- `round` at 2 ^ k times a fraction is 2 ^ k times `round` at the fraction, where the fraction is in the normal range or a whole number of
+-- the format's smallest values, and the larger result is finite. In the second case no digit is lost below the normal range, and from there
+-- on both round alike. Assumes nothing.
 use mathlib.Core.Path.{_≡_, sym, ap, _∙_, subst}
 use mathlib.Core.Logic.{_⊎_, inl, inr}
 use Prim.Native.Nat.{ℕ, suc, _+_, _-_, _*_, _/_, _^_, _≤_, _<_}
-use native.Mathlib.Nat.{le-of-lt, lt-of-lt-of-le, lt-of-le-of-lt, mul-one, mul-comm, mul-assoc, mul-right-comm, mul-pos, le-mul-of-pos-right, mul-div-cancel, mul-mod-left, div-eq-of-eq-mul-left}
+use native.Mathlib.Nat.{le-of-lt, lt-of-lt-of-le, lt-of-le-of-lt, mul-one, mul-comm, mul-assoc, mul-right-comm, mul-pos, le-mul-of-pos-right}
+use native.Mathlib.Nat.{mul-div-cancel, mul-mod-left, div-eq-of-eq-mul-left}
 use native.Mathlib.Omega.{arith}
 use mathlib.Core.Bool.{Bool, true, false, cond}
 use lib.Dec.{T, ltb, ltb→lt}
@@ -29,7 +31,8 @@ exact-grid p n c q j C small h =
     let z = size-le (n / c) (p + j) (subst (λ (x : ℕ). x < 2 ^ (p + j)) (sym e1) (shl-lt p j small)) in
     let k-le : k ≤ j = omega arith in
     let r = q * 2 ^ (j - k) in
-    let e3 : r * 2 ^ k ≡ q * 2 ^ j = mul-assoc q (2 ^ (j - k)) (2 ^ k) ∙ ap (λ (x : ℕ). q * x) (sym (pow-add 2 (j - k) k) ∙ ap (λ (x : ℕ). 2 ^ x) (back j k k-le)) in
+    let powers : 2 ^ (j - k) * 2 ^ k ≡ 2 ^ j = sym (pow-add 2 (j - k) k) ∙ ap (λ (x : ℕ). 2 ^ x) (back j k k-le) in
+    let e3 : r * 2 ^ k ≡ q * 2 ^ j = mul-assoc q (2 ^ (j - k)) (2 ^ k) ∙ ap (λ (x : ℕ). q * x) powers in
     let e2 : n ≡ r * (c * 2 ^ k) = h ∙ ap (λ (x : ℕ). x * c) (sym e3) ∙ mul-assoc r (2 ^ k) c ∙ ap (λ (x : ℕ). r * x) (mul-comm (2 ^ k) c) in
     ap (λ (x : ℕ). x * 2 ^ k) (ap (λ (x : ℕ). closest x (c * 2 ^ k)) e2 ∙ closest-exact r (c * 2 ^ k) (mul-pos C (pow-pos k))) ∙ e3
 
@@ -63,7 +66,9 @@ safe-grid f a c k C (inr (w, e)) = go (lt-or-le (size w) (prec f))
 
 -- ---- the value of a rounded fraction, with either sign
 pub round-value : (f : Format) (s : Bool) (a c : ℕ) → grid f a c < overflow f → HasValue (round f s a c) s (grid f a c) (2 ^ low f)
-round-value f s a c h = subst (λ (z : Float). HasValue z s (grid f a c) (2 ^ low f)) (sym (round-is f s a c)) (units-val f s (kept (prec f) (a * 2 ^ low f) c) (drop (prec f) (a * 2 ^ low f) c) h)
+round-value f s a c h =
+    subst (λ (z : Float). HasValue z s (grid f a c) (2 ^ low f)) (sym (round-is f s a c))
+    (units-val f s (kept (prec f) (a * 2 ^ low f) c) (drop (prec f) (a * 2 ^ low f) c) h)
 
 units-under : (f : Format) (s : Bool) (q k : ℕ) → T (finite (units f s q k)) → q * 2 ^ k < overflow f
 unfolding units
@@ -74,15 +79,20 @@ units-under f s q k = go (ltb (q * 2 ^ k) (overflow f)) (ltb→lt (q * 2 ^ k) (o
     go false h t = absurd t
 
 pub round-under : (f : Format) (s : Bool) (a c : ℕ) → T (finite (round f s a c)) → grid f a c < overflow f
-round-under f s a c t = units-under f s (kept (prec f) (a * 2 ^ low f) c) (drop (prec f) (a * 2 ^ low f) c) (subst (λ (z : Float). T (finite z)) (round-is f s a c) t)
+round-under f s a c t =
+    units-under f s (kept (prec f) (a * 2 ^ low f) c) (drop (prec f) (a * 2 ^ low f) c)
+    (subst (λ (z : Float). T (finite z)) (round-is f s a c) t)
 
 -- ---- the law: a' / c' is 2 ^ k times a / c
-pub round-times : (f : Format) (s : Bool) (k a c a' c' : ℕ) → 0 < c → 0 < c' → a' * c ≡ a * (2 ^ k * c') → Safe f a c → T (finite (round f s a' c')) → Times k (round f s a c) (round f s a' c')
+pub round-times : (f : Format) (s : Bool) (k a c a' c' : ℕ) → 0 < c → 0 < c' → a' * c ≡ a * (2 ^ k * c') → Safe f a c → T (finite (round f s a' c'))
+    → Times k (round f s a c) (round f s a' c')
 round-times f s k a c a' c' C C' e S t =
     let same : round f s a' c' ≡ round f s (a * 2 ^ k) c = round-same f s a' c' (a * 2 ^ k) c C' C (e ∙ sym (mul-assoc a (2 ^ k) c')) in
     let g : grid f (a * 2 ^ k) c ≡ grid f a c * 2 ^ k = safe-grid f a c k C S in
-    let hi : grid f a c * 2 ^ k < overflow f = subst (λ (z : ℕ). z < overflow f) g (round-under f s (a * 2 ^ k) c (subst (λ (z : Float). T (finite z)) same t)) in
+    let under : grid f (a * 2 ^ k) c < overflow f = round-under f s (a * 2 ^ k) c (subst (λ (z : Float). T (finite z)) same t) in
+    let hi : grid f a c * 2 ^ k < overflow f = subst (λ (z : ℕ). z < overflow f) g under in
     let lo : grid f a c < overflow f = lt-of-le-of-lt (le-mul-of-pos-right (grid f a c) (pow-pos k)) hi in
-    let big : HasValue (round f s (a * 2 ^ k) c) s (grid f a c * 2 ^ k) (2 ^ low f) = subst (λ (z : ℕ). HasValue (round f s (a * 2 ^ k) c) s z (2 ^ low f)) g (round-value f s (a * 2 ^ k) c (subst (λ (z : ℕ). z < overflow f) (sym g) hi)) in
+    let r = round f s (a * 2 ^ k) c in
+    let big : HasValue r s (grid f a c * 2 ^ k) (2 ^ low f) = subst (λ (z : ℕ). HasValue r s z (2 ^ low f)) g (round-value f s (a * 2 ^ k) c under) in
     times-of-values k (round f s a c) (round f s a' c') s (grid f a c) (2 ^ low f) (pow-pos (low f)) (round-value f s a c lo)
     (subst (λ (z : Float). HasValue z s (grid f a c * 2 ^ k) (2 ^ low f)) (sym same) big)

@@ -1,4 +1,4 @@
--- The sign and the specials of a value, as comparisons and bit patterns show them. 9223372036854775808 is 2 ^ 63. Assumes nothing.
+-- The sign of a value, infinities and NaN, as comparisons and bit patterns show them. 9223372036854775808 is 2 ^ 63. Assumes nothing.
 use mathlib.Core.Path.{_≡_, refl, sym, ap, _∙_, subst}
 use Prim.Native.Nat.{ℕ, zero, suc, _+_, _/_, _%_, _≤_, _<_}
 use native.Mathlib.Nat.{mod-eq-of-lt}
@@ -53,7 +53,10 @@ unfolding isNan
 fields-minus s zero t h = ap isSignMinus (at-zero s t) ∙ odd-minus s t 0
 fields-minus s (suc x) t h = ap isSignMinus (above-zero s x t) ∙ go (eqb (suc x) 2047) (eqb t 0) (ap isNan (sym (above-zero s x t)) ∙ h)
   where
-    go : (a b : Bool) → isNan (cond a (cond b (inf s) nan) (odd 53 s (4503599627370496 + t) x 1074)) ≡ false → isSignMinus (cond a (cond b (inf s) nan) (odd 53 s (4503599627370496 + t) x 1074)) ≡ s
+    value : Float
+    value = odd 53 s (4503599627370496 + t) x 1074
+
+    go : (a b : Bool) → isNan (cond a (cond b (inf s) nan) value) ≡ false → isSignMinus (cond a (cond b (inf s) nan) value) ≡ s
     go true true h = refl
     go true false h = absurd (true≢false h)
     go false b h = odd-minus s (4503599627370496 + t) x
@@ -63,7 +66,10 @@ unfolding abs
 fields-abs s zero t = ap abs (at-zero s t) ∙ odd-abs s t 0 ∙ sym (at-zero false t)
 fields-abs s (suc x) t = ap abs (above-zero s x t) ∙ go (eqb (suc x) 2047) (eqb t 0) ∙ sym (above-zero false x t)
   where
-    go : (a b : Bool) → abs (cond a (cond b (inf s) nan) (odd 53 s (4503599627370496 + t) x 1074)) ≡ cond a (cond b (inf false) nan) (odd 53 false (4503599627370496 + t) x 1074)
+    value : Bool → Float
+    value u = odd 53 u (4503599627370496 + t) x 1074
+
+    go : (a b : Bool) → abs (cond a (cond b (inf s) nan) (value s)) ≡ cond a (cond b (inf false) nan) (value false)
     go true true = refl
     go true false = refl
     go false b = odd-abs s (4503599627370496 + t) x
@@ -79,7 +85,8 @@ abs-bits x h = go (toBits binary64 x) ∙ ap abs (ofBits-toBits binary64 x h)
     go b =
         let r = b % 9223372036854775808 in
         ofBits-is r
-        ∙ ap (λ (s : Bool). ofFields binary64 s (r % 9223372036854775808 / 4503599627370496) (r % 4503599627370496)) (lt-leb 9223372036854775808 r (omega arith))
+        ∙ ap (λ (s : Bool). ofFields binary64 s (r % 9223372036854775808 / 4503599627370496) (r % 4503599627370496))
+        (lt-leb 9223372036854775808 r (omega arith))
         ∙ ap (λ (n : ℕ). ofFields binary64 false (n / 4503599627370496) (r % 4503599627370496)) (mod-eq-of-lt (omega arith))
         ∙ ap (ofFields binary64 false (r / 4503599627370496)) (same b)
         ∙ sym (ap abs (ofBits-is b) ∙ fields-abs (leb 9223372036854775808 b) (r / 4503599627370496) (b % 4503599627370496))
@@ -94,7 +101,12 @@ abs-no-nan x h n = subst (λ (b : Bool). T (not b)) (sym (nanBits-is binary64 (t
     go (fin s m e) n = refl
 
 pub sign-bit : (x : Float) → T (fits binary64 x) → isNan x ≡ false → isSignMinus x ≡ leb 9223372036854775808 (toBits binary64 x)
-sign-bit x h n = let b = toBits binary64 x in sym (ap isSignMinus back) ∙ ap isSignMinus (ofBits-is b) ∙ fields-minus (leb 9223372036854775808 b) (b % 9223372036854775808 / 4503599627370496) (b % 4503599627370496) (ap isNan (sym (ofBits-is b) ∙ back) ∙ n)
+sign-bit x h n =
+    let b = toBits binary64 x in
+    sym (ap isSignMinus back)
+    ∙ ap isSignMinus (ofBits-is b)
+    ∙ fields-minus (leb 9223372036854775808 b) (b % 9223372036854775808 / 4503599627370496) (b % 4503599627370496)
+    (ap isNan (sym (ofBits-is b) ∙ back) ∙ n)
   where
     back : ofBits binary64 (toBits binary64 x) ≡ x
     back = ofBits-toBits binary64 x h

@@ -26,7 +26,7 @@ scaled-root a j h =
     dropped : (z : ℕ) → 104 < z → (z + 2 * j + 1) / 2 - 53 ≡ (z + 1) / 2 - 53 + j
     dropped z h = omega arith
 
--- x is A units and y is A * 4 ^ j
+-- x is A units of 2 ^ -1074, and y is A * 4 ^ j
 pub units-times : (x y : Float) (A j : ℕ) → 0 < A → HasValue x false A (2 ^ 1074) → HasValue y false (A * 4 ^ j) (2 ^ 1074) → Times j (sqrt x) (sqrt y)
 units-times x y A j h v w =
     let a = A * 2 ^ 1074 in
@@ -37,7 +37,9 @@ units-times x y A j h v w =
     let y-is : sqrt y ≡ odd 53 false q (k + j) 1074 =
     sqrt-of y (A * 4 ^ j) (mul-pos h (four-pos j)) w ∙ ap sqrtUnits (mul-right-comm A (4 ^ j) (2 ^ 1074)) ∙ scaled-root a j big in
     let more : q * 2 ^ (k + j) ≡ q * 2 ^ k * 2 ^ j = ap (λ (n : ℕ). q * n) (pow-add 2 k j) ∙ sym (mul-assoc q (2 ^ k) (2 ^ j)) in
-    rw (x-is, y-is) (times-of-values j (odd 53 false q k 1074) (odd 53 false q (k + j) 1074) false (q * 2 ^ k) (2 ^ 1074) (pow-pos 1074) (odd-sign 53 false q k 1074) (rw (← more) (odd-sign 53 false q (k + j) 1074)))
+    rw (x-is, y-is)
+    (times-of-values j (odd 53 false q k 1074) (odd 53 false q (k + j) 1074) false (q * 2 ^ k) (2 ^ 1074) (pow-pos 1074)
+    (odd-sign 53 false q k 1074) (rw (← more) (odd-sign 53 false q (k + j) 1074)))
 
 pub sqrt-times : (k : ℕ) (x y : Float) → T (positive x) → T (fits binary64 x) → Times (k + k) x y → Times k (sqrt x) (sqrt y)
 sqrt-times k x y p f h =

@@ -1,4 +1,5 @@
--- A sum and a difference of two values of a format, and of 2 ^ k times each: the second is 2 ^ k times the first, wherever it is finite, the subnormal range included. Assumes nothing.
+-- A sum and a difference of two values of a format, and of 2 ^ k times each: the second is 2 ^ k times the first, wherever it is finite, the
+-- subnormal range included. Assumes nothing.
 use mathlib.Core.Path.{_≡_, refl, sym, ap, _∙_, subst}
 use mathlib.Core.Logic.{_⊎_, inl, inr}
 use Prim.Native.Nat.{ℕ, _+_, _-_, _*_, _^_, _≤_, _<_}
@@ -7,15 +8,16 @@ use native.Mathlib.Omega.{arith}
 use mathlib.Core.Bool.{Bool, true, false, _&&_, Bool·beq, cond}
 use lib.Dec.{T, ltb}
 use lib.Pow.{pow-pos}
-use lib.Ieee.{Float, nan, inf, fin, Format, low, round, sum, add, sub, neg, fits}
+use lib.Ieee.{Float, Format, low, round, sum, add, sub, neg, fits}
 use lib.Ieee.Fits.{neg-fits}
 use lib.Ieee.Scale.{finite, grid, overflow, round-same}
 use borrow.Author.Tests.{lt-ltb, le-ltb}
 use lib.Ieee.Positive.{num, den, den-pos}
 use Rattle.arithmetic.specs.Laws.Numbers.{lt-or-le}
+use Rattle.arithmetic.specs.Laws.Choices.{in-both}
 use Rattle.arithmetic.specs.Laws.Ratio.{ltb-ratio, add-ratio, sub-ratio}
 use Rattle.arithmetic.specs.Basic.{isSignMinus}
-use Rattle.arithmetic.specs.Laws.Times.{Times, neg-times, neg-num, neg-den, neg-sign, neg-finite, has-finite}
+use Rattle.arithmetic.specs.Laws.Times.{Times, both-finite, neg-times, neg-num, neg-den, neg-sign, neg-finite, has-finite}
 use Rattle.arithmetic.specs.Laws.Rounding.{Whole, round-times, round-value}
 use Rattle.arithmetic.specs.Laws.Representable.{whole, grid-under}
 use Rattle.arithmetic.specs.Laws.Compare.{left-ratio, right-ratio}
@@ -34,7 +36,7 @@ sum-is : (f : Format) (s : Bool) (a : ℕ) (t : Bool) (b c : ℕ) → sum f s a 
 unfolding sum
 sum-is f s a t b c = refl
 
--- of the same fractions over another denominator
+-- it is the same over another denominator
 pub sum-same : (f : Format) (s t : Bool) (a b c a' b' c' : ℕ) → 0 < c → 0 < c' → a' * c ≡ a * c' → b' * c ≡ b * c' → sum f s a' t b' c' ≡ sum f s a t b c
 sum-same f s t a b c a' b' c' C C' p q =
     sum-is f s a' t b' c'
@@ -46,7 +48,7 @@ sum-same f s t a b c a' b' c' C C' p q =
       round-same f (s && ltb b a) (a' - b') c' (a - b) c C' C (sub-ratio c c' a b a' b' p q),
     ) (sym (sum-is f s a t b c))
 
--- of the terms in the other order
+-- and with the terms in the other order
 and-false : (s : Bool) → (s && false) ≡ false
 and-false true = refl
 and-false false = refl
@@ -58,7 +60,8 @@ and-true false = refl
 pub sum-swap : (f : Format) (s t : Bool) (a b c : ℕ) → sum f s a t b c ≡ sum f t b s a c
 sum-swap f s t a b c = sum-is f s a t b c ∙ go s t ∙ sym (sum-is f t b s a c)
   where
-    apart : (s t : Bool) → (a < b) ⊎ (b ≤ a) → (b < a) ⊎ (a ≤ b) → cond (ltb a b) (round f t (b - a) c) (round f (s && ltb b a) (a - b) c) ≡ cond (ltb b a) (round f s (a - b) c) (round f (t && ltb a b) (b - a) c)
+    apart : (s t : Bool) → (a < b) ⊎ (b ≤ a) → (b < a) ⊎ (a ≤ b)
+        → summed f s a t b c false (ltb a b) (ltb b a) ≡ summed f t b s a c false (ltb b a) (ltb a b)
     apart s t (inl h) (inl k) = absurd (omega arith)
     apart s t (inl h) (inr k) = rw (lt-ltb a b h, le-ltb b a k, and-true t)
     apart s t (inr h) (inl k) = rw (le-ltb a b h, lt-ltb b a k, and-true s)
@@ -70,36 +73,45 @@ sum-swap f s t a b c = sum-is f s a t b c ∙ go s t ∙ sym (sum-is f t b s a c
     go true false = apart true false (lt-or-le a b) (lt-or-le b a)
     go false true = apart false true (lt-or-le a b) (lt-or-le b a)
 
-module _ (f : Format) (k c c' : ℕ) (C : 0 < c) (C' : 0 < c') (s t : Bool) (a b a' b' : ℕ) (e : a' * c ≡ a * (2 ^ k * c')) (g : b' * c ≡ b * (2 ^ k * c')) where
-  summed-times : (i u v : Bool) → Whole f a c → Whole f b c → T (finite (summed f s a' t b' c' i u v)) → Times k (summed f s a t b c i u v) (summed f s a' t b' c' i u v)
-  summed-times true u v (w, p) (z, q) h = round-times f s k (a + b) c (a' + b') c' C C' (add-ratio c (2 ^ k * c') a b a' b' e g) (inr (w + z, add-ratio (2 ^ low f) c w z a b p q)) h
-  summed-times false true v (w, p) (z, q) h = round-times f t k (b - a) c (b' - a') c' C C' (sub-ratio c (2 ^ k * c') b a b' a' g e) (inr (z - w, sub-ratio (2 ^ low f) c z w b a q p)) h
-  summed-times false false v (w, p) (z, q) h = round-times f (s && v) k (a - b) c (a' - b') c' C C' (sub-ratio c (2 ^ k * c') a b a' b' e g) (inr (w - z, sub-ratio (2 ^ low f) c w z a b p q)) h
+-- ---- the sum of two fractions, and of 2 ^ k times each
+module _ (f : Format) (k c c' : ℕ) (C : 0 < c) (C' : 0 < c') (s t : Bool) (a b a' b' : ℕ)
+    (e : a' * c ≡ a * (2 ^ k * c')) (g : b' * c ≡ b * (2 ^ k * c')) where
+  summed-times : (i u v : Bool) → Whole f a c → Whole f b c → T (finite (summed f s a' t b' c' i u v))
+      → Times k (summed f s a t b c i u v) (summed f s a' t b' c' i u v)
+  summed-times true u v (w, p) (z, q) h =
+      round-times f s k (a + b) c (a' + b') c' C C' (add-ratio c (2 ^ k * c') a b a' b' e g) (inr (w + z, add-ratio (2 ^ low f) c w z a b p q)) h
+  summed-times false true v (w, p) (z, q) h =
+      round-times f t k (b - a) c (b' - a') c' C C' (sub-ratio c (2 ^ k * c') b a b' a' g e) (inr (z - w, sub-ratio (2 ^ low f) c z w b a q p)) h
+  summed-times false false v (w, p) (z, q) h =
+      round-times f (s && v) k (a - b) c (a' - b') c' C C' (sub-ratio c (2 ^ k * c') a b a' b' e g)
+      (inr (w - z, sub-ratio (2 ^ low f) c w z a b p q)) h
 
   sum-times : Whole f a c → Whole f b c → T (finite (sum f s a' t b' c')) → Times k (sum f s a t b c) (sum f s a' t b' c')
   sum-times W Z h =
       let Q : 0 < 2 ^ k * c' = mul-pos (pow-pos k) C' in
-      let big : sum f s a' t b' c' ≡ summed f s a' t b' c' (Bool·beq s t) (ltb a b) (ltb b a) = sum-is f s a' t b' c' ∙ rw (ltb-ratio c (2 ^ k * c') C Q a b a' b' e g, ltb-ratio c (2 ^ k * c') C Q b a b' a' g e) in
+      let big : sum f s a' t b' c' ≡ summed f s a' t b' c' (Bool·beq s t) (ltb a b) (ltb b a) =
+      sum-is f s a' t b' c' ∙ rw (ltb-ratio c (2 ^ k * c') C Q a b a' b' e g, ltb-ratio c (2 ^ k * c') C Q b a b' a' g e) in
       rw (sum-is f s a t b c, big) (summed-times (Bool·beq s t) (ltb a b) (ltb b a) W Z (subst (λ (z : Float). T (finite z)) big h))
 
-pub add-is : (f : Format) (x y : Float) → T (finite x) → T (finite y) → add f x y ≡ sum f (isSignMinus x) (num x * den y) (isSignMinus y) (num y * den x) (den x * den y)
+pub add-is : (f : Format) (x y : Float) → T (finite x) → T (finite y)
+    → add f x y ≡ sum f (isSignMinus x) (num x * den y) (isSignMinus y) (num y * den x) (den x * den y)
 unfolding add
-add-is f nan y p q = absurd p
-add-is f (inf s) y p q = absurd p
-add-is f (fin s m e) nan p q = absurd q
-add-is f (fin s m e) (inf t) p q = absurd q
-add-is f (fin s m e) (fin t n d) p q = refl
+add-is f = both-finite _ (λ s m e t n d. refl)
 
--- ---- the laws. x and y are values of the format; x' and y' need not be said to be
-pub add-times : (f : Format) (k : ℕ) (x y x' y' : Float) → T (fits f x) → T (fits f y) → Times k x x' → Times k y y' → T (finite (add f x' y')) → Times k (add f x y) (add f x' y')
+-- ---- sum and difference of x and y, values of the format, and of x' and y', which are 2 ^ k times each and need not be
+add-times : (f : Format) (k : ℕ) (x y x' y' : Float) → T (fits f x) → T (fits f y) → Times k x x' → Times k y y' → T (finite (add f x' y'))
+    → Times k (add f x y) (add f x' y')
 add-times f k x y x' y' F G h g t =
-    let big : add f x' y' ≡ sum f (isSignMinus x) (num x' * den y') (isSignMinus y) (num y' * den x') (den x' * den y') = add-is f x' y' (h .finite-r) (g .finite-r) ∙ rw (h .sign, g .sign) in
+    let big : add f x' y' ≡ sum f (isSignMinus x) (num x' * den y') (isSignMinus y) (num y' * den x') (den x' * den y') =
+    add-is f x' y' (h .finite-r) (g .finite-r) ∙ rw (h .sign, g .sign) in
     rw (add-is f x y (h .finite-l) (g .finite-l), big)
-    (sum-times f k (den x * den y) (den x' * den y') (mul-pos (den-pos x) (den-pos y)) (mul-pos (den-pos x') (den-pos y')) (isSignMinus x) (isSignMinus y) (num x * den y) (num y * den x) (num x' * den y') (num y' * den x')
+    (sum-times f k (den x * den y) (den x' * den y') (mul-pos (den-pos x) (den-pos y)) (mul-pos (den-pos x') (den-pos y'))
+    (isSignMinus x) (isSignMinus y) (num x * den y) (num y * den x) (num x' * den y') (num y' * den x')
     (left-ratio k x y x' y' h) (right-ratio k x y x' y' g) (whole-left f x y (whole f x F (h .finite-l))) (whole-right f x y (whole f y G (g .finite-l)))
     (subst (λ (z : Float). T (finite z)) big t))
 
-pub sub-times : (f : Format) (k : ℕ) (x y x' y' : Float) → T (fits f x) → T (fits f y) → Times k x x' → Times k y y' → T (finite (sub f x' y')) → Times k (sub f x y) (sub f x' y')
+pub sub-times : (f : Format) (k : ℕ) (x y x' y' : Float) → T (fits f x) → T (fits f y) → Times k x x' → Times k y y' → T (finite (sub f x' y'))
+    → Times k (sub f x y) (sub f x' y')
 unfolding sub
 sub-times f k x y x' y' F G h g t = add-times f k x (neg y) x' (neg y') F (neg-fits f y G) h (neg-times k y y' g) t
 
@@ -110,16 +122,15 @@ round-finite f s a c h = has-finite (round f s a c) s (grid f a c) (2 ^ low f) (
 module _ (f : Format) (a b c : ℕ) (A : (n : ℕ) → n ≤ a → grid f n c < overflow f) (B : (n : ℕ) → n ≤ b → grid f n c < overflow f) where
   sum-finite : T (finite (sum f false a true b c))
   unfolding sum
-  sum-finite = go (ltb a b)
-    where
-      go : (u : Bool) → T (finite (cond u (round f true (b - a) c) (round f false (a - b) c)))
-      go true = round-finite f true (b - a) c (B (b - a) (sub-le b a))
-      go false = round-finite f false (a - b) c (A (a - b) (sub-le a b))
+  sum-finite =
+      in-both (λ (z : Float). T (finite z)) (ltb a b)
+      (round-finite f true (b - a) c (B (b - a) (sub-le b a))) (round-finite f false (a - b) c (A (a - b) (sub-le a b)))
 
 part-le : (n nx dx dy c : ℕ) → c ≡ dx * dy → n ≤ nx * dy → n * dx ≤ nx * c
 part-le n nx dx dy c e h = le-trans (mul-le-mul-right dx h) (le-of-eq (mul-assoc nx dy dx ∙ ap (λ (z : ℕ). nx * z) (mul-comm dy dx ∙ sym e)))
 
-pub sub-finite : (f : Format) (x y : Float) → T (fits f x) → T (fits f y) → T (finite x) → T (finite y) → isSignMinus x ≡ false → isSignMinus y ≡ false → T (finite (sub f x y))
+pub sub-finite : (f : Format) (x y : Float) → T (fits f x) → T (fits f y) → T (finite x) → T (finite y)
+    → isSignMinus x ≡ false → isSignMinus y ≡ false → T (finite (sub f x y))
 unfolding sub
 sub-finite f x y F G p q s t =
     let c = den x * den y in

@@ -2,11 +2,12 @@
 use mathlib.Core.Path.{_≡_, refl, sym, ap, _∙_}
 use Prim.Native.Nat.{ℕ, _*_, _^_, _<_}
 use mathlib.Core.Bool.{Bool, false, not}
+use lib.IntN.{ℤ}
 use lib.Dec.{T}
 use lib.Ieee.{Float, nan, inf, fin, neg}
 use lib.Ieee.Exact.{HasValue}
 use lib.Ieee.Scale.{finite}
-use lib.Ieee.Positive.{num, den, den-pos, positive, positive-finite, own-value}
+use lib.Ieee.Positive.{num, den, den-pos, positive, positive-finite, own-value, value-pos}
 use Rattle.arithmetic.specs.Basic.{isSignMinus}
 use Rattle.arithmetic.specs.Laws.Ratio.{same-fraction, scaled-cross}
 
@@ -16,6 +17,15 @@ pub record Times (k : ℕ) (x y : Float) : Type 0 where
   pub finite-r : T (finite y)
   pub sign : isSignMinus y ≡ isSignMinus x
   pub value : num y * den x ≡ num x * 2 ^ k * den y
+
+-- ---- what holds of any two values with digits holds of two finite ones
+pub both-finite : (P : Float → Float → Type 0)
+    → ((s : Bool) (m : ℕ) (e : ℤ) (t : Bool) (n : ℕ) (d : ℤ) → P (fin s m e) (fin t n d)) → (x y : Float) → T (finite x) → T (finite y) → P x y
+both-finite P h nan y p q = absurd p
+both-finite P h (inf s) y p q = absurd p
+both-finite P h (fin s m e) nan p q = absurd q
+both-finite P h (fin s m e) (inf t) p q = absurd q
+both-finite P h (fin s m e) (fin t n d) p q = h s m e t n d
 
 -- ---- from the fractions that two values equal
 pub cross : (x : Float) (s : Bool) (a c : ℕ) → HasValue x s a c → num x * c ≡ a * den x
@@ -41,6 +51,9 @@ of-cross (fin t m e) s a c p d h = (d, h)
 pub positive-sign : (x : Float) → T (positive x) → isSignMinus x ≡ false
 positive-sign x p = has-sign x false (num x) (den x) (own-value x p)
 
+pub num-positive : (x : Float) → T (positive x) → 0 < num x
+num-positive x p = value-pos x (num x) (den x) p (den-pos x) (own-value x p)
+
 pub positive-value : (x : Float) (a c : ℕ) → T (positive x) → num x * c ≡ a * den x → HasValue x false a c
 positive-value x a c p h = of-cross x false a c (positive-finite x p) (positive-sign x p) h
 
@@ -54,13 +67,16 @@ times-of-values k x y s g l L h h' = record {
 
 pub times-value : (k : ℕ) (x y : Float) (s : Bool) (a c : ℕ) → Times k x y → HasValue x s a c → HasValue y s (a * 2 ^ k) c
 times-value k x y s a c h v =
-    of-cross y s (a * 2 ^ k) c (h .finite-r) (h .sign ∙ has-sign x s a c v) (scaled-cross a c (num y) (den y) (num x) (den x) (2 ^ k) (den-pos x) (sym (cross x s a c v)) (h .value))
+    of-cross y s (a * 2 ^ k) c (h .finite-r) (h .sign ∙ has-sign x s a c v)
+    (scaled-cross a c (num y) (den y) (num x) (den x) (2 ^ k) (den-pos x) (sym (cross x s a c v)) (h .value))
 
--- the value as a fraction of other terms
+-- the same value as another fraction, a / c for w / l
 pub rescale : (x : Float) (s : Bool) (w l a c : ℕ) → 0 < l → a * l ≡ w * c → HasValue x s w l → HasValue x s a c
-rescale x s w l a c L h v = of-cross x s a c (has-finite x s w l v) (has-sign x s w l v) (sym (same-fraction w l a c (num x) (den x) L (sym h) (sym (cross x s w l v))))
+rescale x s w l a c L h v =
+    of-cross x s a c (has-finite x s w l v) (has-sign x s w l v)
+    (sym (same-fraction w l a c (num x) (den x) L (sym h) (sym (cross x s w l v))))
 
--- ---- the negative
+-- ---- the negative of a value
 pub neg-finite : (x : Float) → T (finite x) → T (finite (neg x))
 unfolding neg
 neg-finite nan h = h

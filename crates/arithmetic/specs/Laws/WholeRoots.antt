@@ -3,19 +3,21 @@ use mathlib.Core.Path.{_≡_, refl, sym, ap, _∙_, subst}
 use Prim.Native.Nat.{ℕ, zero, suc, _+_, _-_, _*_, _/_, _^_, _≤_, _<_}
 use native.Mathlib.Nat.{div-one, zero-lt-suc, lt-of-lt-of-le, lt-of-not-le, le-antisymm, mul-le-mul, mul-assoc, mul-div-mul-right, pow-suc, zero-add}
 use native.Mathlib.Omega.{arith}
-use mathlib.Core.Bool.{Bool, true, false, not, cond}
-use lib.Dec.{T, leb, ltb, leb→le, nleb→lt, ltb→lt, nltb→le}
+use mathlib.Core.Bool.{Bool, false, cond}
+use borrow.Author.Tests.{leb-true, leb-false, ltb-true, ltb-false}
+use lib.Dec.{leb, ltb}
 use lib.Pow.{pow-add, pow-pos}
 use lib.Ieee.{size, odd}
 use lib.Ieee.Digits.{size-le}
 use Rattle.arithmetic.specs.Sqrt.{root, closestRoot, sqrtUnits}
 use Rattle.arithmetic.specs.Laws.Numbers.{ltb-mul, four-pos, size-gt, size-four}
+use Rattle.arithmetic.specs.Laws.Choices.{by-test}
 
 -- q is the whole part of √n
 abbrev pub IsRoot : ℕ → ℕ → Type 0
 IsRoot n q = (q * q ≤ n) × (n < (q + 1) * (q + 1))
 
-pub root-is : (d n : ℕ) → n < 4 ^ d → IsRoot n (root d n)
+root-is : (d n : ℕ) → n < 4 ^ d → IsRoot n (root d n)
 unfolding root
 root-is zero n h = omega arith
 root-is (suc d) n h = go (root d (n / 4)) (root-is d (n / 4) (quarter (4 ^ d) (rw pow-suc at h)))
@@ -29,14 +31,12 @@ root-is (suc d) n h = go (root d (n / 4)) (root-is d (n / 4) (quarter (4 ^ d) (r
     same : (r : ℕ) → IsRoot (n / 4) r → n < (2 * r + 1) * (2 * r + 1) → IsRoot n (2 * r)
     same r h k = omega arith
 
-    pick : (r : ℕ) (b : Bool) → IsRoot (n / 4) r → (T b → (2 * r + 1) * (2 * r + 1) ≤ n) → (T (not b) → n < (2 * r + 1) * (2 * r + 1)) → IsRoot n (cond b (2 * r + 1) (2 * r))
-    pick r true i a b = more r i (a tt)
-    pick r false i a b = same r i (b tt)
-
     go : (r : ℕ) → IsRoot (n / 4) r → IsRoot n (cond (leb ((2 * r + 1) * (2 * r + 1)) n) (2 * r + 1) (2 * r))
-    go r i = pick r (leb ((2 * r + 1) * (2 * r + 1)) n) i (leb→le ((2 * r + 1) * (2 * r + 1)) n) (nleb→lt ((2 * r + 1) * (2 * r + 1)) n)
+    go r i =
+        let s = (2 * r + 1) * (2 * r + 1) in
+        by-test (IsRoot n) (leb s n) (λ e. more r i (leb-true s n e)) (λ e. same r i (leb-false s n e))
 
--- ---- the whole number nearest to √n, by two bounds
+-- ---- r is the whole number nearest to √n: (r - 1 / 2)² < n < (r + 1 / 2)², over whole numbers
 abbrev pub Nearest : ℕ → ℕ → Type 0
 Nearest n r = (r * r < n + r) × (n ≤ r * r + r)
 
@@ -44,8 +44,9 @@ closestRoot-is : (a k q : ℕ) → root 53 (a / 4 ^ k) ≡ q → closestRoot a k
 unfolding closestRoot
 closestRoot-is a k q e = ap (λ (r : ℕ). cond (ltb ((2 * r + 1) * (2 * r + 1) * 4 ^ k) (4 * a)) (r + 1) r) e
 
-pub near : (n : ℕ) → 0 < n → n < 4 ^ 53 → Nearest n (closestRoot n 0)
-near n p hi = subst (λ (r : ℕ). Nearest n r) (sym (closestRoot-is n 0 (root 53 n) (ap (root 53) (div-one n)))) (go (root 53 n) (root-is 53 n hi))
+pub closest-is-nearest : (n : ℕ) → 0 < n → n < 4 ^ 53 → Nearest n (closestRoot n 0)
+closest-is-nearest n p hi =
+    subst (λ (r : ℕ). Nearest n r) (sym (closestRoot-is n 0 (root 53 n) (ap (root 53) (div-one n)))) (go (root 53 n) (root-is 53 n hi))
   where
     some : (q : ℕ) → IsRoot n q → 0 < q
     some zero h = absurd (no p (h .1))
@@ -60,14 +61,12 @@ near n p hi = subst (λ (r : ℕ). Nearest n r) (sym (closestRoot-is n 0 (root 5
     stay : (q : ℕ) → 0 < q → IsRoot n q → 4 * n ≤ (2 * q + 1) * (2 * q + 1) * 1 → Nearest n q
     stay q s h k = omega arith
 
-    pick : (q : ℕ) (b : Bool) → IsRoot n q → (T b → (2 * q + 1) * (2 * q + 1) * 1 < 4 * n) → (T (not b) → 4 * n ≤ (2 * q + 1) * (2 * q + 1) * 1) → Nearest n (cond b (q + 1) q)
-    pick q true h a b = up q h (a tt)
-    pick q false h a b = stay q (some q h) h (b tt)
-
     go : (q : ℕ) → IsRoot n q → Nearest n (cond (ltb ((2 * q + 1) * (2 * q + 1) * 1) (4 * n)) (q + 1) q)
-    go q h = pick q (ltb ((2 * q + 1) * (2 * q + 1) * 1) (4 * n)) h (ltb→lt ((2 * q + 1) * (2 * q + 1) * 1) (4 * n)) (nltb→le ((2 * q + 1) * (2 * q + 1) * 1) (4 * n))
+    go q h =
+        let s = (2 * q + 1) * (2 * q + 1) * 1 in
+        by-test (Nearest n) (ltb s (4 * n)) (λ e. up q h (ltb-true s (4 * n) e)) (λ e. stay q (some q h) h (ltb-false s (4 * n) e))
 
--- there is one
+-- there is only one
 near-le : (n p q : ℕ) → p * p < n + p → n ≤ q * q + q → p ≤ q
 near-le n zero q h k = omega arith
 near-le n (suc p) q h k = lt-of-not-le (λ (g : q ≤ p). no (mul-le-mul g g) g)
@@ -77,7 +76,7 @@ near-le n (suc p) q h k = lt-of-not-le (λ (g : q ≤ p). no (mul-le-mul g g) g)
 
 pub nearest-root : (n r : ℕ) → 0 < n → n < 4 ^ 53 → Nearest n r → closestRoot n 0 ≡ r
 nearest-root n r p hi h =
-    let k = near n p hi in
+    let k = closest-is-nearest n p hi in
     le-antisymm (near-le n (closestRoot n 0) r (k .0) (h .1)) (near-le n r (closestRoot n 0) (h .0) (k .1))
 
 -- ---- 4 ^ j times a number: the numbers that `closestRoot` looks at are the same

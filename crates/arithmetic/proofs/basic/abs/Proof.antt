@@ -1,6 +1,6 @@
--- `arithmetic::basic::abs` meets its contract. Assumes nothing.
-use mathlib.Core.Path.{sym, subst}
+-- `arithmetic::basic::abs` meets its contract: the pattern without its sign is that of the magnitude, by `abs-bits`. Assumes nothing.
 use lib.Dec.{T}
+use denote.Floats.{passes}
 use lib.Ieee.{binary64, fits, div}
 use Rattle.arithmetic.specs.Basic.{abs}
 use Rattle.arithmetic.specs.Laws.Compare.{is-no-nan}
@@ -9,7 +9,7 @@ use Rattle.arithmetic.proofs.basic.abs.Statement.{statement}
 use Rattle.arithmetic.proofs.basic.abs.Tie as tie
 
 held : (c : tie.Start) → T (fits binary64 (c .args .x))
-held c = subst T (sym (c .good .0 .1)) tt
+held c = passes _ (c .good .0 .1)
 
 returns : tie.Need-returns
 unfolding abs div
@@ -19,7 +19,7 @@ float-to-bits-result : tie.Need-float-to-bits-result
 float-to-bits-result c = has-bits (c .before .args .x) (c .if1 .left)
 
 float-from-bits-result : tie.Need-float-from-bits-result
-float-from-bits-result c = abs-no-nan (c .before .args .x) (held (c .before)) (is-no-nan (c .before .args .x) (c .if1 .left))
+float-from-bits-result c = let x = c .before .args .x in abs-no-nan x (held (c .before)) (is-no-nan x (c .if1 .left))
 
 returns-2 : tie.Need-returns-2
 returns-2 c = abs-bits (c .before .args .x) (held (c .before))

@@ -1,30 +1,26 @@
--- `arithmetic::basic::max` meets its contract. Assumes nothing.
-use mathlib.Core.Path.{sym, _∙_}
-use lib.Ieee.{isNan}
+-- `arithmetic::basic::max` meets its contract: a law of `MaxMin` for each path. Assumes nothing.
+use mathlib.Core.Path.{_≡_}
+use mathlib.Core.Bool.{cond}
 use Rattle.arithmetic.specs.Basic.{max}
-use Rattle.arithmetic.specs.Laws.Compare.{is-no-nan}
-use Rattle.arithmetic.specs.Laws.Signs.{is-nan, has-bits}
+use Rattle.arithmetic.specs.Laws.Signs.{has-bits}
+use Rattle.arithmetic.proofs.MaxMin.{first-nan, second-nan, by-first}
 use Rattle.arithmetic.proofs.basic.max.Statement.{statement}
 use Rattle.arithmetic.proofs.basic.max.Tie as tie
 
-returns : tie.Need-returns
-unfolding max isNan
-returns c = rw (is-nan (c .before .args .x) (c .if1 .taken))
-
-returns-2 : tie.Need-returns-2
-unfolding max isNan
-returns-2 c = rw (is-no-nan (c .before .before .args .x) (c .before .if1 .left), is-nan (c .before .before .args .y) (c .if2 .taken))
-
-takes-first-requires : tie.Need-takes-first-requires
-takes-first-requires c κs = has-bits (c .before .before .args .x) (c .before .if1 .left)
-
-returns-3 : tie.Need-returns-3
+-- of two numbers
+by-choice : (c : tie.After-takes-first)
+    → let at-x = c .before .before in let a = at-x .before .args in cond (c .takes-first .result) (a .x) (a .y) ≡ max (a .x) (a .y)
 unfolding max
-returns-3 c = let s = c .before .before in rw (is-no-nan _ (s .before .if1 .left), is-no-nan _ (s .if2 .left), sym (c .before .takes-first .ensures) ∙ c .if3 .taken)
-
-returns-4 : tie.Need-returns-4
-unfolding max
-returns-4 c = let s = c .before .before in rw (is-no-nan _ (s .before .if1 .left), is-no-nan _ (s .if2 .left), sym (c .before .takes-first .ensures) ∙ c .if3 .left)
+by-choice c =
+    let at-y = c .before in
+    by-first _ _ _ _ (at-y .before .if1 .left) (at-y .if2 .left) _ (c .takes-first .ensures)
 
 pub max-spec : {M : Type 1} → statement M
-max-spec = tie.close (tie.spec returns returns-2 takes-first-requires returns-3 returns-4)
+unfolding max
+max-spec =
+    tie.close
+    (tie.spec (λ c. let a = c .before .args in first-nan (a .x) (a .y) (a .x) (a .y) (c .if1 .taken))
+    (λ c. let a = c .before .before .args in second-nan (a .x) (a .y) (a .x) (a .y) (c .before .if1 .left) (c .if2 .taken))
+    (λ c κs. has-bits _ (c .before .if1 .left))
+    (λ c. rw (c .if3 .taken) at (by-choice (c .before)))
+    (λ c. rw (c .if3 .left) at (by-choice (c .before))))

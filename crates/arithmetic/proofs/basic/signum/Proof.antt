@@ -1,7 +1,8 @@
--- `arithmetic::basic::signum` meets its contract. Assumes nothing.
-use mathlib.Core.Path.{_≡_, sym, ap, _∙_, subst}
+-- `arithmetic::basic::signum` meets its contract: the pattern's highest bit is the sign. Assumes nothing.
+use mathlib.Core.Path.{_≡_, sym, ap, _∙_}
 use mathlib.Core.Bool.{Bool, false, cond}
 use lib.Dec.{T}
+use denote.Floats.{passes}
 use lib.Ieee.{binary64, fits, isNan, neg}
 use Rattle.arithmetic.specs.Operations.{one}
 use Rattle.arithmetic.specs.Basic.{isSignMinus, signum}
@@ -11,7 +12,7 @@ use Rattle.arithmetic.proofs.basic.signum.Statement.{statement}
 use Rattle.arithmetic.proofs.basic.signum.Tie as tie
 
 held : (c : tie.Start) → T (fits binary64 (c .args .x))
-held c = subst T (sym (c .good .0 .1)) tt
+held c = passes _ (c .good .0 .1)
 
 no-nan : (c : tie.Else1) → isNan (c .before .args .x) ≡ false
 no-nan c = is-no-nan (c .before .args .x) (c .if1 .left)
@@ -27,10 +28,16 @@ float-to-bits-if2 : tie.Need-float-to-bits-if2
 float-to-bits-if2 c = has-bits (c .before .args .x) (c .if1 .left)
 
 returns-2 : tie.Need-returns-2
-returns-2 c = sym (signed (c .before) ∙ ap (λ (b : Bool). cond b (neg one) one) (sign-clear (c .before .before .args .x) (held (c .before .before)) (no-nan (c .before)) (c .if2 .taken)))
+returns-2 c =
+    let number = c .before in
+    let start = number .before in
+    sym (signed number ∙ ap (λ (b : Bool). cond b (neg one) one) (sign-clear (start .args .x) (held start) (no-nan number) (c .if2 .taken)))
 
 returns-3 : tie.Need-returns-3
-returns-3 c = sym (signed (c .before) ∙ ap (λ (b : Bool). cond b (neg one) one) (sign-set (c .before .before .args .x) (held (c .before .before)) (no-nan (c .before)) (c .if2 .left)))
+returns-3 c =
+    let number = c .before in
+    let start = number .before in
+    sym (signed number ∙ ap (λ (b : Bool). cond b (neg one) one) (sign-set (start .args .x) (held start) (no-nan number) (c .if2 .left)))
 
 pub signum-spec : {M : Type 1} → statement M
 signum-spec = tie.close (tie.spec returns float-to-bits-if2 returns-2 returns-3)

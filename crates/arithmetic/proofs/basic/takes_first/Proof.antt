@@ -1,6 +1,6 @@
--- `arithmetic::basic::takes_first` meets its contract. Assumes nothing.
-use mathlib.Core.Path.{sym, _∙_, subst}
-use lib.Dec.{T}
+-- `arithmetic::basic::takes_first` meets its contract: the two comparisons, and the pattern's highest bit for equal operands. Assumes nothing.
+use mathlib.Core.Path.{_∙_}
+use denote.Floats.{passes}
 use lib.Ieee.{isNan}
 use lib.Ieee.Bits.{is-false}
 use Rattle.arithmetic.specs.Laws.Signs.{sign-test}
@@ -18,8 +18,9 @@ returns-2 c = rw (c .before .if1 .left, c .if2 .taken)
 
 returns-3 : tie.Need-returns-3
 returns-3 c =
-    let a = c .before .before in
-    sign-test (a .args .x) (subst T (sym (a .good .0 .1)) tt) (is-false (isNan (a .args .x)) (a .pre))
+    let start = c .before .before in
+    let x = start .args .x in
+    sign-test x (passes _ (start .good .0 .1)) (is-false (isNan x) (start .pre))
     ∙ rw (c .before .if1 .left, c .if2 .left)
 
 pub takes-first-spec : {M : Type 1} → statement M

@@ -1,11 +1,14 @@
--- `arithmetic::exp::exp` meets its contract. Assumes nothing.
+-- `arithmetic::exp::exp` meets its contract: `fast` is called where both its tests hold. Assumes nothing.
 use Rattle.arithmetic.proofs.ExpFast.{passed}
 use borrow.Author.Needs.{needs}
 use Rattle.arithmetic.proofs.exp.exp.Statement.{statement}
 use Rattle.arithmetic.proofs.exp.exp.Tie as tie
 
 fast-requires : tie.Need-fast-requires
-fast-requires c κs = (passed (c .before .before .if1 .taken) (c .before .before .before .is-in-fast-range .ensures), passed (c .if2 .taken) (c .before .is-clear-of-tie .ensures))
+fast-requires c κs =
+    let at-clear = c .before in
+    let in-range = at-clear .before in
+    (passed (in-range .if1 .taken) (in-range .before .is-in-fast-range .ensures), passed (c .if2 .taken) (at-clear .is-clear-of-tie .ensures))
 
 pub exp-spec : {M : Type 1} → statement M
 exp-spec =

@@ -1,10 +1,10 @@
--- `arithmetic::ln::decompose_bits` meets its contract. Assumes nothing.
+-- `arithmetic::ln::decompose_bits` meets its contract: k is the difference of two whole numbers, by `sub-whole`. Assumes nothing.
 use mathlib.Core.Path.{_≡_, refl, ap, _∙_}
 use Prim.Native.Nat.{_-_, _/_}
 use lib.Dec.{lit≤}
 use lib.IntN.{pos}
 use lib.Ieee.{binary64, sub, ofInt, ofBits}
-use Rattle.arithmetic.specs.Laws.Logarithm.{low-no-nan}
+use Rattle.arithmetic.specs.Laws.Patterns.{bits-no-nan}
 use Rattle.arithmetic.proofs.LnPaths.{sub-whole}
 use native.Mathlib.Omega.{arith}
 use borrow.Author.Needs.{needs}
@@ -12,7 +12,7 @@ use Rattle.arithmetic.proofs.ln.decompose_bits.Statement.{statement}
 use Rattle.arithmetic.proofs.ln.decompose_bits.Tie as tie
 
 float-from-bits-t5 : tie.Need-float-from-bits-t5
-float-from-bits-t5 c = low-no-nan _ (omega arith)
+float-from-bits-t5 c = bits-no-nan _ (omega arith)
 
 literal : ofBits binary64 4652438317399277568 ≡ ofInt binary64 (pos 1074)
 unfolding ofBits ofInt

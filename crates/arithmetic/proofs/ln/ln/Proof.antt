@@ -1,12 +1,9 @@
--- `arithmetic::ln::ln` meets its contract: a law of `LnPaths` for each way through the code. Assumes nothing.
-use lib.Ieee.{nanBits}
-use Rattle.arithmetic.proofs.LnPaths.{ln-zero, ln-below, above, ln-parts, ln-itself}
+-- `arithmetic::ln::ln` meets its contract: a law of `LnPaths` for each path. Assumes nothing.
+use native.Mathlib.Omega.{arith}
+use Rattle.arithmetic.specs.Laws.Patterns.{bits-no-nan}
+use Rattle.arithmetic.proofs.LnPaths.{ln-zero, ln-below, is-positive, ln-parts, ln-itself}
 use Rattle.arithmetic.proofs.ln.ln.Statement.{statement}
 use Rattle.arithmetic.proofs.ln.ln.Tie as tie
-
-float-from-bits-result : tie.Need-float-from-bits-result
-unfolding nanBits
-float-from-bits-result c = tt
 
 returns : tie.Need-returns
 returns c = ln-zero (c .before .args .x) (c .if1 .taken)
@@ -14,26 +11,31 @@ returns c = ln-zero (c .before .args .x) (c .if1 .taken)
 returns-2 : tie.Need-returns-2
 returns-2 c = ln-below (c .before .before .args .x) (c .before .if1 .left) (c .if2 .taken)
 
-float-from-bits-if3 : tie.Need-float-from-bits-if3
-unfolding nanBits
-float-from-bits-if3 c = tt
-
 decompose-requires : tie.Need-decompose-requires
-decompose-requires c κs = above (c .before .before .before .args .x) (c .before .before .if1 .left) (c .before .if2 .left) (c .if3 .taken)
+decompose-requires c κs =
+    let not-below = c .before in
+    let not-zero = not-below .before in
+    is-positive (not-zero .before .args .x) (not-zero .if1 .left) (not-below .if2 .left) (c .if3 .taken)
 
 returns-3 : tie.Need-returns-3
 returns-3 c =
-    let d = c .before .before .before .before in
-    let z = d .before .before .if1 .left in
-    let l = d .before .if2 .left in
-    let x = d .before .before .before .args .x in
-    ln-parts x _ _ _ z l (above x z l (d .if3 .taken)) (c .before .before .before .decompose .ensures) (c .series .ensures)
+    let at-parts = c .before .before in
+    let at-decompose = at-parts .before in
+    let finite = at-decompose .before in
+    let not-below = finite .before in
+    let not-zero = not-below .before in
+    let x = not-zero .before .args .x in
+    let is-above = is-positive x (not-zero .if1 .left) (not-below .if2 .left) (finite .if3 .taken) in
+    ln-parts x _ _ _ (not-zero .if1 .left) (not-below .if2 .left) is-above (at-decompose .decompose .ensures) (c .series .ensures)
 
 returns-4 : tie.Need-returns-4
-returns-4 c = ln-itself (c .before .before .before .args .x) (c .before .before .if1 .left) (c .before .if2 .left) (c .if3 .left)
+returns-4 c =
+    let not-below = c .before in
+    let not-zero = not-below .before in
+    ln-itself (not-zero .before .args .x) (not-zero .if1 .left) (not-below .if2 .left) (c .if3 .left)
 
 pub ln-spec : {M : Type 1} → statement M
 ln-spec =
     tie.close
-    (tie.spec float-from-bits-result returns returns-2 float-from-bits-if3 decompose-requires (λ c κs. tt) returns-3
-    returns-4)
+    (tie.spec (λ c. bits-no-nan _ (omega arith)) returns returns-2 (λ c. bits-no-nan _ (omega arith)) decompose-requires
+    (λ c κs. tt) returns-3 returns-4)

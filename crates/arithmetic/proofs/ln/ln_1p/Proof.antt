@@ -1,4 +1,4 @@
--- `arithmetic::ln::ln_1p` meets its contract: a law of `LnPaths` for each way through the code. Assumes nothing.
+-- `arithmetic::ln::ln_1p` meets its contract: a law of `LnPaths` for each path. Assumes nothing.
 use mathlib.Core.Path.{_∙_}
 use lib.Ieee.{ofBits, neg}
 use Rattle.arithmetic.proofs.LnPaths.{ln1p-low, ln1p-high, ln1p-over, ln1p-under, sum-positive}
@@ -8,18 +8,26 @@ use Rattle.arithmetic.proofs.ln.ln_1p.Tie as tie
 returns : tie.Need-returns
 unfolding ofBits neg
 returns c =
-    let d = c .before in
-    c .series .ensures ∙ ln1p-low (d .before .before .before .args .u) (d .before .before .if1 .taken) (d .before .if2 .taken) (d .if3 .taken)
+    let is-low = c .before in
+    let in-range = is-low .before in
+    let from-least = in-range .before in
+    c .series .ensures ∙ ln1p-low (from-least .before .args .u) (from-least .if1 .taken) (in-range .if2 .taken) (is-low .if3 .taken)
 
 decompose-requires : tie.Need-decompose-requires
-decompose-requires c κs = sum-positive (c .before .before .before .args .u) (c .before .if2 .taken) (c .if3 .left)
+decompose-requires c κs =
+    let in-range = c .before in
+    sum-positive (in-range .before .before .args .u) (in-range .if2 .taken) (c .if3 .left)
 
 returns-2 : tie.Need-returns-2
 unfolding ofBits neg
 returns-2 c =
-    let d = c .before .before .before .before in
-    ln1p-high (d .before .before .before .args .u) _ _ _ (d .before .before .if1 .taken) (d .before .if2 .taken) (d .if3 .left)
-    (c .before .before .before .decompose .ensures) (c .series2 .ensures)
+    let at-parts = c .before .before in
+    let at-decompose = at-parts .before in
+    let not-low = at-decompose .before in
+    let in-range = not-low .before in
+    let from-least = in-range .before in
+    ln1p-high (from-least .before .args .u) _ _ _ (from-least .if1 .taken) (in-range .if2 .taken) (not-low .if3 .left)
+    (at-decompose .decompose .ensures) (c .series2 .ensures)
 
 returns-3 : tie.Need-returns-3
 unfolding ofBits neg

@@ -1,18 +1,18 @@
--- `arithmetic::mul_add::decode` meets its contract. Assumes nothing.
-use mathlib.Core.Path.{sym, subst}
+-- `arithmetic::mul_add::decode` meets its contract: a law of `MulAddDecode` for a subnormal value, and one for any other. Assumes nothing.
 use native.Mathlib.Omega.{arith}
 use lib.Dec.{T}
+use denote.Floats.{passes}
 use lib.Bits.{mask-lt}
 use lib.Ieee.{binary64, fits, toBits}
 use Rattle.arithmetic.specs.Laws.Numbers.{false-not}
 use Rattle.arithmetic.specs.Laws.Compare.{finite-no-nan}
-use Rattle.arithmetic.proofs.MulAddDecode.{decoded-zero, decoded-more}
+use Rattle.arithmetic.proofs.MulAddDecode.{decoded-subnormal, decoded-normal}
 use borrow.Author.Needs.{needs}
 use Rattle.arithmetic.proofs.mul_add.decode.Statement.{statement}
 use Rattle.arithmetic.proofs.mul_add.decode.Tie as tie
 
 held : (c : tie.Start) → T (fits binary64 (c .args .x))
-held c = subst T (sym (c .good .0 .1)) tt
+held c = passes _ (c .good .0 .1)
 
 float-to-bits-bits : tie.Need-float-to-bits-bits
 float-to-bits-bits c = false-not _ (finite-no-nan (c .args .x) (c .pre))
@@ -21,10 +21,10 @@ add-t9 : tie.Need-add-t9
 add-t9 c = omega (arith, mask-lt (toBits binary64 (c .before .args .x)) 52)
 
 returns : tie.Need-returns
-returns c = decoded-zero (c .before .args .x) (held (c .before)) (c .before .pre) (c .if1 .taken)
+returns c = let start = c .before in decoded-subnormal (start .args .x) (held start) (start .pre) (c .if1 .taken)
 
 returns-2 : tie.Need-returns-2
-returns-2 c = decoded-more (c .before .args .x) (held (c .before)) (c .before .pre) (c .if1 .left)
+returns-2 c = let start = c .before in decoded-normal (start .args .x) (held start) (start .pre) (c .if1 .left)
 
 pub decode-spec : {M : Type 1} → statement M
 decode-spec = tie.close (tie.spec float-to-bits-bits add-t9 (λ c. search needs) returns returns-2)

@@ -1,23 +1,26 @@
--- `arithmetic::mul_add::product_exponent` meets its contract. Assumes nothing.
-use mathlib.Core.Path.{ap, _∙_}
-use Prim.Native.Nat.{ℕ, _*_}
-use native.Mathlib.Nat.{zero-mul, mul-zero}
+-- `arithmetic::mul_add::product_exponent` meets its contract, by the laws of `MulAddAlign`. Assumes nothing.
+use mathlib.Core.Logic.{inl, inr}
 use borrow.Author.Needs.{needs}
 use Rattle.arithmetic.proofs.MulAddAlign.{product-exponent-zero, product-exponent-sum}
 use Rattle.arithmetic.proofs.mul_add.product_exponent.Statement.{statement}
 use Rattle.arithmetic.proofs.mul_add.product_exponent.Tie as tie
 
 returns : tie.Need-returns
-returns c = let a = c .before .before .args in product-exponent-zero (a .u) (a .v) (ap (λ (x : ℕ). x * a .v .m) (c .if1 .taken) ∙ zero-mul (a .v .m))
+returns c = let a = c .before .before .args in product-exponent-zero (a .u) (a .v) (inl (c .if1 .taken))
 
 returns-2 : tie.Need-returns-2
-returns-2 c = let a = c .before .before .before .before .args in product-exponent-zero (a .u) (a .v) (ap (λ (x : ℕ). a .u .m * x) (c .if2 .taken) ∙ mul-zero (a .u .m))
+returns-2 c =
+    let at-u = c .before .before in
+    let a = at-u .before .before .args in
+    product-exponent-zero (a .u) (a .v) (inr (c .if2 .taken))
 
 returns-3 : tie.Need-returns-3
 returns-3 c =
-    let t = c .before .before .before in
-    let s = t .before .before .before in
-    product-exponent-sum (s .args .u) (s .args .v) (s .pre .0) (s .pre .1 .0) (s .pre .1 .1 .0) (s .pre .1 .1 .1) (t .before .if1 .left) (c .before .before .if2 .left)
+    let at-v = c .before .before in
+    let at-u = at-v .before .before in
+    let start = at-u .before .before in
+    let pre = start .pre in
+    product-exponent-sum (start .args .u) (start .args .v) (pre .0) (pre .1 .0) (pre .1 .1 .0) (pre .1 .1 .1) (at-u .if1 .left) (at-v .if2 .left)
 
 pub product-exponent-spec : {M : Type 1} → statement M
 product-exponent-spec = tie.close (tie.spec (λ c. search needs) returns returns-2 returns-3)

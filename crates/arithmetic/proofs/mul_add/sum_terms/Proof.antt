@@ -1,10 +1,9 @@
--- `arithmetic::mul_add::sum_terms` meets its contract. Assumes nothing.
-use mathlib.Core.Path.{sym, ap, _∙_}
-use mathlib.Core.Bool.{Bool, _&&_}
-use Prim.Native.Nat.{ℕ, _-_, _*_, _^_}
+-- `arithmetic::mul_add::sum_terms` meets its contract: a law of `SumOneScale` for each order of the terms. Assumes nothing.
+use mathlib.Core.Path.{_≡_, sym, ap, _∙_}
+use mathlib.Core.Bool.{Bool, true, false, _&&_}
 use native.Mathlib.Nat.{le-of-lt}
-use lib.Pow.{pow-pos, add-lt-pow}
-use lib.Ieee.{binary64, round}
+use lib.Dec.{ltb}
+use lib.Pow.{add-lt-pow}
 use borrow.Author.Tests.{ltb-true, ltb-false}
 use Rattle.arithmetic.specs.Internal.Pair.{val}
 use Rattle.arithmetic.proofs.SumOneScale.{sum-alike, sum-less, sum-more}
@@ -12,42 +11,56 @@ use borrow.Author.Needs.{needs}
 use Rattle.arithmetic.proofs.mul_add.sum_terms.Statement.{statement}
 use Rattle.arithmetic.proofs.mul_add.sum_terms.Tie as tie
 
+-- the start, from the place where the signs are compared
+abbrev start : tie.After-b → tie.Start
+start c = c .before .before
+
+-- the order of the terms, where the signs differ
+first-less : (c : tie.Then2) → let at-signs = c .before .before in let w = start (at-signs .before) .args .w in ltb (val (w .a)) (val (w .b)) ≡ true
+first-less c = sym (c .before .less .ensures) ∙ c .if2 .taken
+
+first-not-less : (c : tie.Else2) → let at-signs = c .before .before in let w = start (at-signs .before) .args .w in ltb (val (w .a)) (val (w .b)) ≡ false
+first-not-less c = sym (c .before .less .ensures) ∙ c .if2 .left
+
 add-requires : tie.Need-add-requires
-add-requires c κs = add-lt-pow 127 (c .before .before .before .pre .0) (c .before .before .before .pre .1 .0)
+add-requires c κs = let pre = start (c .before) .pre in add-lt-pow 127 (pre .0) (pre .1 .0)
 
 sub-requires : tie.Need-sub-requires
-sub-requires c κs = le-of-lt (ltb-true _ _ (sym (c .before .less .ensures) ∙ c .if2 .taken))
+sub-requires c κs = le-of-lt (ltb-true _ _ (first-less c))
 
 sub-requires-2 : tie.Need-sub-requires-2
-sub-requires-2 c κs = ltb-false _ _ (sym (c .before .before .before .less .ensures) ∙ c .before .before .if2 .left)
+sub-requires-2 c κs = ltb-false _ _ (first-not-less (c .before .before))
 
 returns : tie.Need-returns
 returns c =
-    let t = c .before .before in
-    let s = t .before .before .before in
-    let a = s .args in
+    let at-add = c .before in
+    let at-signs = at-add .before in
+    let a = start (at-signs .before) .args in
     c .round-magnitude .ensures
-    ∙ ap (λ (x : ℕ). round binary64 (a .s) (x * 2 ^ a .w .e) (2 ^ 2148)) (c .before .add .ensures)
-    ∙ sum-alike (val (a .w .a)) (val (a .w .b)) (2 ^ a .w .e) (2 ^ 2148) (pow-pos (a .w .e)) (a .s) (a .t) (t .if1 .taken)
+    ∙ sum-alike (val (a .w .a)) (val (a .w .b)) (a .w .e) (a .s) (a .t) (val (at-add .add .result)) (at-add .add .ensures) (at-signs .if1 .taken)
 
 returns-2 : tie.Need-returns-2
 returns-2 c =
-    let t = c .before .before in
-    let s = t .before .before .before .before .before in
-    let a = s .args in
+    let at-sub = c .before in
+    let at-order = at-sub .before in
+    let at-signs = at-order .before .before in
+    let a = start (at-signs .before) .args in
     c .round-magnitude2 .ensures
-    ∙ ap (λ (x : ℕ). round binary64 (a .t) (x * 2 ^ a .w .e) (2 ^ 2148)) (c .before .sub .ensures)
-    ∙ sum-less (val (a .w .a)) (val (a .w .b)) (2 ^ a .w .e) (2 ^ 2148) (pow-pos (a .w .e)) (a .s) (a .t) (t .before .before .if1 .left) (sym (t .before .less .ensures) ∙ t .if2 .taken)
+    ∙ sum-less (val (a .w .a)) (val (a .w .b)) (a .w .e) (a .s) (a .t)
+    (val (at-sub .sub .result)) (at-sub .sub .ensures) (at-signs .if1 .left) (first-less at-order)
 
 returns-3 : tie.Need-returns-3
 returns-3 c =
-    let t = c .before .before .before .before in
-    let s = t .before .before .before .before .before in
-    let a = s .args in
+    let at-sub = c .before in
+    let at-both = at-sub .before in
+    let at-less = at-both .before in
+    let at-order = at-less .before in
+    let at-signs = at-order .before .before in
+    let a = start (at-signs .before) .args in
     c .round-magnitude3 .ensures
-    ∙ ap (λ (x : ℕ). round binary64 (c .before .before .both .result) (x * 2 ^ a .w .e) (2 ^ 2148)) (c .before .sub2 .ensures)
-    ∙ ap (λ (b : Bool). round binary64 b ((val (a .w .a) - val (a .w .b)) * 2 ^ a .w .e) (2 ^ 2148)) (c .before .before .both .ensures ∙ ap (λ (b : Bool). a .s && b) (c .before .before .before .less2 .ensures))
-    ∙ sum-more (val (a .w .a)) (val (a .w .b)) (2 ^ a .w .e) (2 ^ 2148) (pow-pos (a .w .e)) (a .s) (a .t) (t .before .before .if1 .left) (sym (t .before .less .ensures) ∙ t .if2 .left)
+    ∙ sum-more (val (a .w .a)) (val (a .w .b)) (a .w .e) (a .s) (a .t)
+    (val (at-sub .sub2 .result)) (at-both .both .result) (at-sub .sub2 .ensures)
+    (at-both .both .ensures ∙ ap (λ (b : Bool). a .s && b) (at-less .less2 .ensures)) (at-signs .if1 .left) (first-not-less at-order)
 
 pub sum-terms-spec : {M : Type 1} → statement M
 sum-terms-spec =

@@ -1,9 +1,8 @@
--- `arithmetic::pair::add` meets its contract. Assumes nothing.
-use mathlib.Core.Path.{ap, _∙_}
-use Prim.Native.Nat.{ℕ, _+_, _*_, _^_, _<_}
+-- `arithmetic::pair::add` meets its contract: a law of `Pairs` with a carry, and one without. Assumes nothing.
+use Prim.Native.Nat.{_^_, _<_}
 use native.Mathlib.Omega.{arith}
 use borrow.Author.Needs.{needs}
-use Rattle.arithmetic.proofs.Pairs.{add-carry, add-plain}
+use Rattle.arithmetic.proofs.Pairs.{pair-carry, pair-no-carry}
 use Rattle.arithmetic.proofs.pair.add.Statement.{statement}
 use Rattle.arithmetic.proofs.pair.add.Tie as tie
 
@@ -15,20 +14,20 @@ bl c = omega arith
 
 returns : tie.Need-returns
 returns c =
-    let t = c .before .before .before in
-    let s = t .before .before in
-    let a = s .args .a in
-    let b = s .args .b in
-    ap (λ (x : ℕ). x * 2 ^ 64 + t .before .wrapping-add-u64 .result) (c .wrapping-add-u643 .ensures)
-    ∙ add-carry (2 ^ 64) (a .hi) (a .lo) (b .hi) (b .lo) (al s) (bl s) (s .pre) (t .before .wrapping-add-u64 .result) (t .wrapping-add-u642 .result) (t .before .wrapping-add-u64 .ensures) (t .wrapping-add-u642 .ensures) (c .before .if1 .taken)
+    let at-carry = c .before in
+    let at-hi = at-carry .before .before in
+    let at-lo = at-hi .before in
+    let start = at-lo .before in
+    pair-carry (start .args .a) (start .args .b) (al start) (bl start) (start .pre)
+    (at-lo .wrapping-add-u64 .ensures) (at-hi .wrapping-add-u642 .ensures) (c .wrapping-add-u643 .ensures) (at-carry .if1 .taken)
 
 returns-2 : tie.Need-returns-2
 returns-2 c =
-    let t = c .before .before in
-    let s = t .before .before in
-    let a = s .args .a in
-    let b = s .args .b in
-    add-plain (2 ^ 64) (a .hi) (a .lo) (b .hi) (b .lo) (al s) (bl s) (s .pre) (t .before .wrapping-add-u64 .result) (t .wrapping-add-u642 .result) (t .before .wrapping-add-u64 .ensures) (t .wrapping-add-u642 .ensures) (c .if1 .left)
+    let at-hi = c .before .before in
+    let at-lo = at-hi .before in
+    let start = at-lo .before in
+    pair-no-carry (start .args .a) (start .args .b) (al start) (bl start) (start .pre)
+    (at-lo .wrapping-add-u64 .ensures) (at-hi .wrapping-add-u642 .ensures) (c .if1 .left)
 
 pub add-spec : {M : Type 1} → statement M
 add-spec =

@@ -1,4 +1,4 @@
--- `arithmetic::pair::jam` meets its contract. Assumes nothing.
+-- `arithmetic::pair::jam` meets its contract: a law of `Pairs` where anything is cut, and one where nothing is. Assumes nothing.
 use mathlib.Core.Path.{_≡_, sym, ap, _∙_, subst}
 use Prim.Native.Nat.{ℕ, _+_, _*_, _/_, _^_, _≤_, _<_}
 use native.Mathlib.Nat.{lt-of-le-of-lt}
@@ -9,18 +9,17 @@ use Rattle.arithmetic.proofs.Pairs.{val-lt, twice-le, jam-room, jam-som
 use Rattle.arithmetic.proofs.pair.jam.Statement.{statement}
 use Rattle.arithmetic.proofs.pair.jam.Tie as tie
 
-held : (c : tie.Start) → val (c .args .a) < 2 ^ 128
-held c = val-lt (c .args .a) (search needs) (search needs)
+small : (c : tie.Start) → val (c .args .a) < 2 ^ 128
+small c = val-lt (c .args .a) (search needs) (search needs)
 
 up-requires : tie.Need-up-requires
 up-requires c κs =
-    let s = c .before in (
-      search needs,
-      subst (λ (x : ℕ). x * 2 < 2 ^ 128) (sym (c .down .ensures)) (lt-of-le-of-lt (twice-le (val (s .args .a)) (s .args .d)) (held s)),
-    )
+    let a = c .before .args in
+    let fits = lt-of-le-of-lt (twice-le (val (a .a)) (a .d)) (small (c .before)) in
+    (search needs, subst (λ (x : ℕ). x * 2 < 2 ^ 128) (sym (c .down .ensures)) fits)
 
 -- the doubled quotient
-twice : (c : tie.After-up) → val (c .up .result) ≡ val (c .before .before .args .a) / 2 ^ (c .before .before .args .d + 1) * 2
+twice : (c : tie.After-up) → let a = c .before .before .args in val (c .up .result) ≡ val (a .a) / 2 ^ (a .d + 1) * 2
 twice c = c .up .ensures ∙ ap (λ (x : ℕ). x * 2) (c .before .down .ensures)
 
 low : (c : tie.After-up) → c .up .result .lo < 2 ^ 64
@@ -28,23 +27,31 @@ low c = search needs
 
 add-t8 : tie.Need-add-t8
 add-t8 c =
-    let u = c .before .before .before .before in
-    let s = u .before .before in
-    record { fits = jam-room (u .up .result .hi) (u .up .result .lo) (val (s .args .a) / 2 ^ (s .args .d + 1)) (twice u) (low u) }
+    let at-less = c .before .before in
+    let at-up = at-less .before .before in
+    let a = at-up .before .before .args in
+    record { fits = jam-room (at-up .up .result .hi) (at-up .up .result .lo) (val (a .a) / 2 ^ (a .d + 1)) (twice at-up) (low at-up) }
 
 returns : tie.Need-returns
 returns c =
-    let t = c .before .before in
-    let u = t .before .before in
-    let a = u .before .before .args in
-    jam-some (val (a .a)) (a .d) (u .up .result .hi) (u .up .result .lo) (twice u) (subst (λ (x : ℕ). x < val (a .a)) (t .before .cleared .ensures) (ltb-true _ _ (sym (t .less .ensures) ∙ c .before .if1 .taken)))
+    let at-test = c .before in
+    let at-less = at-test .before in
+    let at-cleared = at-less .before in
+    let at-up = at-cleared .before in
+    let a = at-up .before .before .args in
+    let cut = ltb-true _ _ (sym (at-less .less .ensures) ∙ at-test .if1 .taken) in
+    jam-some (val (a .a)) (a .d) (at-up .up .result .hi) (at-up .up .result .lo) (twice at-up)
+    (subst (λ (x : ℕ). x < val (a .a)) (at-cleared .cleared .ensures) cut)
 
 returns-2 : tie.Need-returns-2
 returns-2 c =
-    let t = c .before in
-    let u = t .before .before in
-    let a = u .before .before .args in
-    jam-none (val (a .a)) (a .d) (val (u .up .result)) (twice u) (subst (λ (x : ℕ). val (a .a) ≤ x) (t .before .cleared .ensures) (ltb-false _ _ (sym (t .less .ensures) ∙ c .if1 .left)))
+    let at-less = c .before in
+    let at-cleared = at-less .before in
+    let at-up = at-cleared .before in
+    let a = at-up .before .before .args in
+    let nothing-cut = ltb-false _ _ (sym (at-less .less .ensures) ∙ c .if1 .left) in
+    jam-none (val (a .a)) (a .d) (val (at-up .up .result)) (twice at-up)
+    (subst (λ (x : ℕ). val (a .a) ≤ x) (at-cleared .cleared .ensures) nothing-cut)
 
 pub jam-spec : {M : Type 1} → statement M
 jam-spec =

@@ -1,8 +1,8 @@
--- `arithmetic::pair::sub` meets its contract. Assumes nothing.
+-- `arithmetic::pair::sub` meets its contract: a law of `Pairs` with a borrow, and one without. Assumes nothing.
 use Prim.Native.Nat.{_^_, _<_}
 use native.Mathlib.Omega.{arith}
 use borrow.Author.Needs.{needs}
-use Rattle.arithmetic.proofs.Pairs.{sub-borrow, sub-plain}
+use Rattle.arithmetic.proofs.Pairs.{pair-borrow, pair-no-borrow}
 use Rattle.arithmetic.proofs.pair.sub.Statement.{statement}
 use Rattle.arithmetic.proofs.pair.sub.Tie as tie
 
@@ -29,19 +29,21 @@ top c = omega (arith, c .wrapping-sub-u643 .ok)
 
 returns : tie.Need-returns
 returns c =
-    let t = c .before .before .before .before in
-    let s = t .before .before in
-    let a = s .args .a in
-    let b = s .args .b in
-    sub-borrow (2 ^ 64) (a .hi) (a .lo) (b .hi) (b .lo) (ah s) (al s) (bh s) (bl s) (s .pre) (t .before .wrapping-sub-u64 .result) (t .wrapping-sub-u642 .result) (c .wrapping-sub-u643 .result) (lo (t .before)) (hi t) (top c) (t .before .wrapping-sub-u64 .ensures) (t .wrapping-sub-u642 .ensures) (c .wrapping-sub-u643 .ensures) (c .before .if1 .taken)
+    let at-test = c .before .before in
+    let at-hi = at-test .before .before in
+    let at-lo = at-hi .before in
+    let start = at-lo .before in
+    pair-borrow (start .args .a) (start .args .b) (al start) (bl start) (ah start) (bh start) (start .pre) (lo at-lo) (hi at-hi)
+    (at-lo .wrapping-sub-u64 .ensures) (at-hi .wrapping-sub-u642 .ensures) (top c) (c .wrapping-sub-u643 .ensures) (c .before .if1 .taken)
 
 returns-2 : tie.Need-returns-2
 returns-2 c =
-    let t = c .before .before .before in
-    let s = t .before .before in
-    let a = s .args .a in
-    let b = s .args .b in
-    sub-plain (2 ^ 64) (a .hi) (a .lo) (b .hi) (b .lo) (ah s) (al s) (bh s) (bl s) (s .pre) (t .before .wrapping-sub-u64 .result) (t .wrapping-sub-u642 .result) (lo (t .before)) (hi t) (t .before .wrapping-sub-u64 .ensures) (t .wrapping-sub-u642 .ensures) (c .if1 .left)
+    let at-test = c .before in
+    let at-hi = at-test .before .before in
+    let at-lo = at-hi .before in
+    let start = at-lo .before in
+    pair-no-borrow (start .args .a) (start .args .b) (al start) (bl start) (ah start) (bh start) (start .pre) (lo at-lo) (hi at-hi)
+    (at-lo .wrapping-sub-u64 .ensures) (at-hi .wrapping-sub-u642 .ensures) (c .if1 .left)
 
 pub sub-spec : {M : Type 1} → statement M
 sub-spec =

@@ -1,15 +1,14 @@
 -- `arithmetic::sqrt::closest` meets its contract: what passes the test is nearest. Assumes nothing.
-use mathlib.Core.Path.{sym, subst}
 use borrow.Author.Needs.{needs}
-use lib.Dec.{T}
+use denote.Floats.{passes}
 use Rattle.arithmetic.proofs.sqrt.closest.Statement.{statement}
 use Rattle.arithmetic.proofs.sqrt.closest.Tie as tie
 
 returns : tie.Need-returns
-returns c = c .before .is-closest .ensures (subst T (sym (c .if1 .taken)) tt)
+returns c = c .before .is-closest .ensures (passes _ (c .if1 .taken))
 
 returns-2 : tie.Need-returns-2
-returns-2 c = c .before .is-closest2 .ensures (subst T (sym (c .if2 .taken)) tt)
+returns-2 c = c .before .is-closest2 .ensures (passes _ (c .if2 .taken))
 
 pub closest-spec : {M : Type 1} → statement M
 closest-spec =

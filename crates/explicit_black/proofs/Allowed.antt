@@ -1,34 +1,18 @@
 -- What a caller learns of a counted result from what it was handed back of its allowance. Assumes nothing.
 use mathlib.Core.Path.{_≡_, refl, sym, _∙_, subst}
-use Prim.Native.Nat.{ℕ, zero, suc, _+_, _-_, _≤_}
+use Prim.Native.Nat.{ℕ, _-_, _≤_}
 use native.Mathlib.Omega.{arith}
 use lib.Ieee.{Float, ofBits}
 use Rattle.arithmetic.specs.Operations.{one}
 use Rattle.arithmetic.specs.Sqrt.{sqrt}
-use Rattle.explicit_black.specs.Counted.{Option, Counted, Metered, have, mapped, allow, limited}
-use Rattle.explicit_black.specs.Laws.Counted.{limited-enough}
+use Rattle.explicit_black.specs.Counted.{Option, Counted, Metered, have, mapped, limited}
+use Rattle.explicit_black.specs.Laws.Counted.{limited-enough, taken-off, limited-mapped}
 use Rattle.explicit_black.specs.Quote.{Outcome, total, refused, answer, refusal, volatility, reply, searched, totalAt}
 use Rattle.explicit_black.specs.Internal.Quote.{LeftWithin}
 
--- the result, the count, which is what was taken off, and that no more is left than was allowed
-pub taken-off : {R : Type 0} (n left : ℕ) (r : R) (c : Counted R) → have r left ≡ limited n c → (c .result ≡ r) × (left + c .count ≡ n)
-unfolding limited
-taken-off {R = R} n left r c e = go (c .count) n e
-  where
-    go : (k n : ℕ) → have r left ≡ allow (c .result) k n → (c .result ≡ r) × (left + k ≡ n)
-    go zero n e = (cc, let h : left ≡ n = cc in omega arith)
-    go (suc k) zero e = let z : _≡_ {A = ℕ} 0 1 = cc in absurd (omega arith)
-    go (suc k) (suc n) e = let q = go k n e in (q .0, omega arith)
-
 -- a search's total, for what is allowed
 pub limited-searched : (n : ℕ) (c : Counted (Option Float)) → limited n (searched c) ≡ mapped totalAt (limited n c)
-unfolding limited
-limited-searched n c = go (c .result) (c .count) n
-  where
-    go : (r : Option Float) (k n : ℕ) → allow (totalAt r) k n ≡ mapped totalAt (allow r k n)
-    go r zero n = refl
-    go r (suc k) zero = refl
-    go r (suc k) (suc n) = go r k n
+limited-searched n c = limited-mapped totalAt n c
 
 -- with enough allowed, what is left is no more than was allowed
 pub enough-within : (n : ℕ) (m : Metered Outcome) (c : Counted Outcome) → m ≡ limited n c → c .count ≤ n → LeftWithin n m

@@ -1,5 +1,7 @@
 -- A result with how many evaluations it took; and what a caller gets of it who is allowed only so many. Definitions only.
-use Prim.Native.Nat.{ℕ, zero, suc, _+_}
+use Prim.Native.Nat.{ℕ, suc, _+_, _-_}
+use mathlib.Core.Bool.{cond}
+use lib.Dec.{leb}
 use lib.Ieee.{Float}
 
 -- the source's `Option`
@@ -51,13 +53,6 @@ mapped f spent = spent
 abbrev pub allSome : {R : Type 0} → Metered R → Metered (Option R)
 allSome m = mapped (λ r. some r) m
 
--- r, which takes k evaluations, where n are allowed
-unfoldable pub allow : {R : Type 0} → R → ℕ → ℕ → Metered R
-allow r zero n = have r n
-allow r (suc k) zero = spent
-allow r (suc k) (suc n) = allow r k n
-
--- n allowed: the result, with n - count left, if the count is at most n
+-- with n allowed: the result with n - count left if the count is at most n, and else spent
 unfoldable pub limited : {R : Type 0} → ℕ → Counted R → Metered R
-unfolding allow
-limited n c = allow (c .result) (c .count) n
+limited n c = cond (leb (c .count) n) (have (c .result) (n - c .count)) spent

@@ -2,44 +2,63 @@
 -- Assumes nothing.
 use mathlib.Core.Path.{_≡_, refl, sym, ap, subst, _∙_}
 use Prim.Native.Nat.{ℕ, zero, suc, _+_, _-_, _≤_, _<_, zero-le, suc-le-suc}
+use mathlib.Core.Bool.{Bool, not}
+use lib.Dec.{T, leb, leb→le, nleb→lt}
 use lib.Ieee.{Float}
-use native.Mathlib.Nat.{zero-add, suc-add}
 use native.Mathlib.Omega.{arith}
-use Rattle.explicit_black.specs.Counted.{Option, some, none, Counted, Sample, sample, atOnce, tick, then, someOf, Metered, have, spent, allSome, allow, limited}
+use Rattle.arithmetic.specs.Laws.Choices.{by-test, never}
+use Rattle.explicit_black.specs.Counted.{Option, some, none, Counted, Sample, sample, atOnce, tick, then, someOf, Metered, have, spent, mapped, allSome, limited}
 use Rattle.explicit_black.specs.Loops.{Next, go, stop, Loop, step, iterate, Ends}
 
 -- ---- what is allowed
 
-pub limited-now : {R : Type 0} (n : ℕ) (r : R) → limited n (atOnce r) ≡ have r n
+-- by cases: the count is within the allowance, or over it
+by-allowance : {R : Type 0} (P : Metered R → Type 0) (n : ℕ) (c : Counted R) → (c .count ≤ n → P (have (c .result) (n - c .count)))
+    → (n < c .count → P spent) → P (limited n c)
 unfolding limited
-limited-now n r = refl
+by-allowance P n c within over =
+    by-test P (leb (c .count) n) (λ e. within (leb→le (c .count) n (subst T (sym e) tt)))
+    (λ e. over (nleb→lt (c .count) n (subst (λ (b : Bool). T (not b)) (sym e) tt)))
+
+-- with enough allowed, the result and what is left; with too few, nothing
+pub limited-enough : {R : Type 0} (n : ℕ) (c : Counted R) → c .count ≤ n → limited n c ≡ have (c .result) (n - c .count)
+limited-enough n c h = by-allowance (λ m. m ≡ have (c .result) (n - c .count)) n c (λ _. refl) (λ g. absurd (omega arith))
+
+limited-over : {R : Type 0} (n : ℕ) (c : Counted R) → n < c .count → limited n c ≡ spent
+limited-over n c h = by-allowance (λ m. m ≡ spent) n c (λ g. absurd (omega arith)) (λ _. refl)
+
+pub limited-now : {R : Type 0} (n : ℕ) (r : R) → limited n (atOnce r) ≡ have r n
+limited-now n r = limited-enough n (atOnce r) zero-le ∙ ap (have r) (omega arith)
 
 pub limited-none : {R : Type 0} (c : Counted R) → limited zero (tick c) ≡ spent
-unfolding limited
-limited-none c = refl
+limited-none c = limited-over zero (tick c) (omega arith)
 
 pub limited-tick : {R : Type 0} (n : ℕ) (c : Counted R) → limited (suc n) (tick c) ≡ limited n c
-unfolding limited
-limited-tick n c = refl
+limited-tick n c =
+    by-allowance (λ m. limited (suc n) (tick c) ≡ m) n c
+    (λ h. limited-enough (suc n) (tick c) (suc-le-suc h) ∙ ap (have (c .result)) (omega arith))
+    (λ h. limited-over (suc n) (tick c) (suc-le-suc h))
+
+-- the result and the count, which is what was taken off
+pub taken-off : {R : Type 0} (n left : ℕ) (r : R) (c : Counted R) → have r left ≡ limited n c → (c .result ≡ r) × (left + c .count ≡ n)
+taken-off n left r c =
+    by-allowance (λ m. have r left ≡ m → (c .result ≡ r) × (left + c .count ≡ n)) n c
+    (λ h e. let l : left ≡ n - c .count = cc in (cc, omega arith)) (λ h e. never (cc))
+
+-- a result changed by g
+pub limited-mapped : {R Q : Type 0} (g : R → Q) (n : ℕ) (c : Counted R) → limited n (record { result = g (c .result); count = c .count }) ≡ mapped g (limited n c)
+limited-mapped {Q = Q} g n c =
+    by-allowance (λ m. limited n d ≡ mapped g m) n c (limited-enough n d) (limited-over n d)
+  where
+    d : Counted Q
+    d = record { result = g (c .result); count = c .count }
 
 -- an evaluation with none allowed, and with some
 pub tick-none : {R : Type 0} (n : ℕ) (w : R) → n ≡ 0 → spent ≡ limited n (tick (atOnce w))
-tick-none n w e = rw e (sym (limited-none (atOnce w)))
+tick-none n w e = sym (limited-over n (tick (atOnce w)) (omega arith))
 
 pub tick-some : {R : Type 0} (n : ℕ) (v w : R) {m : ℕ} → (n ≡ 0 → ⊥) → v ≡ w → m ≡ n - 1 → have v m ≡ limited n (tick (atOnce w))
-unfolding limited
-tick-some zero v w h e l = absurd (h refl)
-tick-some (suc n) v w h e l = let d : suc n - 1 ≡ n = omega arith in rw (l, d, e)
-
--- with enough allowed, the result and what is left
-pub limited-enough : {R : Type 0} (n : ℕ) (c : Counted R) → c .count ≤ n → limited n c ≡ have (c .result) (n - c .count)
-unfolding limited
-limited-enough {R = R} n c h = go (c .result) (c .count) n h
-  where
-    go : (r : R) (k n : ℕ) → k ≤ n → allow r k n ≡ have r (n - k)
-    go r zero n h = ap (have r) (omega arith)
-    go r (suc k) zero h = absurd (omega arith)
-    go r (suc k) (suc n) h = let d : suc n - suc k ≡ n - k = omega arith in go r k n (omega arith) ∙ ap (have r) (sym d)
+tick-some n v w h e l = rw (limited-enough n (tick (atOnce w)) (omega arith), l, e)
 
 -- one search after another
 abbrev pub andThen : {R Q : Type 0} → Metered R → (R → ℕ → Metered Q) → Metered Q
@@ -47,16 +66,12 @@ andThen (have r n) f = f r n
 andThen spent f = spent
 
 pub limited-then : {R Q : Type 0} (n : ℕ) (c : Counted R) (f : R → Counted Q) → limited n (then c f) ≡ andThen (limited n c) (λ r m. limited m (f r))
-unfolding limited
-limited-then {Q = Q} n c f = go (c .count) n
-  where
-    q : Counted Q
-    q = f (c .result)
-
-    go : (k n : ℕ) → allow (q .result) (k + q .count) n ≡ andThen (allow (c .result) k n) (λ r m. allow (f r .result) (f r .count) m)
-    go zero n = rw zero-add
-    go (suc k) zero = rw suc-add
-    go (suc k) (suc n) = rw suc-add (go k n)
+limited-then n c f =
+    let q = f (c .result) in
+    by-allowance (λ m. limited n (then c f) ≡ andThen m (λ r m. limited m (f r))) n c
+    (λ h. by-allowance (λ m. limited n (then c f) ≡ m) (n - c .count) q
+    (λ g. limited-enough n (then c f) (omega arith) ∙ ap (have (q .result)) (omega arith)) (λ g. limited-over n (then c f) (omega arith)))
+    (λ h. limited-over n (then c f) (omega arith))
 
 pub then-spent : {R Q : Type 0} (n : ℕ) (c : Counted R) (f : R → Counted Q) → spent ≡ limited n c → spent ≡ limited n (then c f)
 then-spent n c f e = rw (limited-then n c f, ← e)
@@ -66,13 +81,7 @@ then-have n m c f r q e h = rw (limited-then n c f, ← e) h
 
 -- a result as one that might have been none
 pub limited-some : {R : Type 0} (n : ℕ) (c : Counted R) → limited n (someOf c) ≡ allSome (limited n c)
-unfolding limited
-limited-some {R = R} n c = go (c .result) (c .count) n
-  where
-    go : (r : R) (k n : ℕ) → allow (some r) k n ≡ allSome (allow r k n)
-    go r zero n = refl
-    go r (suc k) zero = refl
-    go r (suc k) (suc n) = go r k n
+limited-some n c = limited-mapped (λ r. some r) n c
 
 pub some-spent : {R : Type 0} (n : ℕ) (c : Counted R) → spent ≡ limited n c → spent ≡ limited n (someOf c)
 some-spent n c e = sym (limited-some n c ∙ ap allSome (sym e))
@@ -99,8 +108,8 @@ pub never-none : {R : Type 0} (n m : ℕ) (c : Counted R) → have none m ≡ li
 never-none {R = R} n m c e = go (limited n c) (e ∙ limited-some n c)
   where
     go : (q : Metered R) → have none m ≡ allSome q → ⊥
-    go (have s k) h = let z : _≡_ {A = ℕ} 0 1 = cc in omega arith
-    go spent h = let z : _≡_ {A = ℕ} 0 1 = cc in omega arith
+    go (have s k) h = never (cc)
+    go spent h = never (cc)
 
 pub then-some : {R Q : Type 0} (n m : ℕ) (c : Counted R) (f : R → Counted Q) (r : R) (q : Metered (Option Q)) → have r m ≡ limited n c → q ≡ limited m (someOf (f r)) → q ≡ limited n (someOf (then c f))
 then-some n m c f r q e h = h ∙ limited-some m (f r) ∙ ap allSome (then-have n m c f r (limited m (f r)) e refl) ∙ sym (limited-some n (then c f))
@@ -108,14 +117,10 @@ then-some n m c f r q e h = h ∙ limited-some m (f r) ∙ ap allSome (then-have
 -- ---- what an evaluation tells its caller, who had n allowed: the value, with one fewer; or that n was 0
 
 pub value-of : {R : Type 0} {n m : ℕ} {v w : R} → have v m ≡ limited n (tick (atOnce w)) → (w ≡ v) × (n ≡ suc m)
-unfolding limited
-value-of {n = zero} e = let z : _≡_ {A = ℕ} 0 1 = cc in absurd (omega arith)
-value-of {n = suc n} e = (cc, cc)
+value-of {n} {m} {v} {w} e = let q = taken-off n m v (tick (atOnce w)) e in (q .0, omega arith)
 
 pub none-of : {R : Type 0} {n : ℕ} (w : R) → spent ≡ limited n (tick (atOnce w)) → n ≡ zero
-unfolding limited
-none-of {n = zero} w e = refl
-none-of {n = suc n} w e = cc
+none-of {n} w = by-allowance (λ m. spent ≡ m → n ≡ zero) n (tick (atOnce w)) (λ h e. never (cc)) (λ h e. omega arith)
 
 pub fewer : {R : Type 0} {n m : ℕ} {v : R} (w : R) → have v m ≡ limited n (tick (atOnce w)) → m < n
 fewer w e = omega (arith, value-of e .1)

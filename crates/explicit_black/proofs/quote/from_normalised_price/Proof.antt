@@ -1,29 +1,29 @@
 -- `from_normalised_price` meets its contract: each return by the tests that led there. Assumes nothing.
 use Rattle.explicit_black.specs.Quote.{fromNormalisedPrice}
-use Rattle.explicit_black.specs.Counted.{limited}
+use Rattle.explicit_black.specs.Laws.Counted.{limited-now}
 use lib.Ieee.{nanBits}
 use Rattle.explicit_black.proofs.quote.from_normalised_price.Statement.{statement}
 use Rattle.explicit_black.proofs.quote.from_normalised_price.Tie as tie
 
 returns : tie.Need-returns
-unfolding limited fromNormalisedPrice
-returns c = rw (c .before .if1 .taken, c .if2 .taken)
+unfolding fromNormalisedPrice
+returns c = rw (c .before .if1 .taken, c .if2 .taken, limited-now)
 
 returns-2 : tie.Need-returns-2
-unfolding limited fromNormalisedPrice
-returns-2 c = rw (c .before .if1 .taken, c .if2 .left)
+unfolding fromNormalisedPrice
+returns-2 c = rw (c .before .if1 .taken, c .if2 .left, limited-now)
 
 float-from-bits-t11 : tie.Need-float-from-bits-t11
 unfolding nanBits
 float-from-bits-t11 c = tt
 
 returns-3 : tie.Need-returns-3
-unfolding limited fromNormalisedPrice
-returns-3 c = rw (c .before .before .before .before .if1 .left, ← c .before .before .before .abs .ensures, ← c .before .before .exp .ensures, c .before .if3 .taken, c .if4 .taken)
+unfolding fromNormalisedPrice
+returns-3 c = rw (c .before .before .before .before .if1 .left, ← c .before .before .before .abs .ensures, ← c .before .before .exp .ensures, c .before .if3 .taken, c .if4 .taken, limited-now)
 
 returns-4 : tie.Need-returns-4
-unfolding limited fromNormalisedPrice
-returns-4 c = rw (c .before .before .before .before .if1 .left, ← c .before .before .before .abs .ensures, ← c .before .before .exp .ensures, c .before .if3 .taken, c .if4 .left)
+unfolding fromNormalisedPrice
+returns-4 c = rw (c .before .before .before .before .if1 .left, ← c .before .before .before .abs .ensures, ← c .before .before .exp .ensures, c .before .if3 .taken, c .if4 .left, limited-now)
 
 returns-5 : tie.Need-returns-5
 unfolding fromNormalisedPrice

@@ -1,13 +1,13 @@
 -- `from_quote` meets its contract: each return by the tests that led there. Assumes nothing.
 use Rattle.explicit_black.specs.Quote.{fromQuote}
-use Rattle.explicit_black.specs.Counted.{limited}
+use Rattle.explicit_black.specs.Laws.Counted.{limited-now}
 use borrow.Author.Tests.{eq-eqb, ne-eqb}
 use Rattle.explicit_black.proofs.quote.from_quote.Statement.{statement}
 use Rattle.explicit_black.proofs.quote.from_quote.Tie as tie
 
 returns : tie.Need-returns
-unfolding limited fromQuote
-returns c = rw (← c .before .first-refusal .ensures, ne-eqb _ _ (c .if1 .taken))
+unfolding fromQuote
+returns c = rw (← c .before .first-refusal .ensures, ne-eqb _ _ (c .if1 .taken), limited-now)
 
 returns-2 : tie.Need-returns-2
 unfolding fromQuote

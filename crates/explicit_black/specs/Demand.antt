@@ -1,7 +1,7 @@
 -- The terms of demand 3 (REQUIREMENTS 2.3): what is asked of two quotes, and what of their replies is compared. Definitions only.
 use mathlib.Core.Path.{_≡_}
 use mathlib.Core.Logic.{_⊎_}
-use Prim.Native.Nat.{ℕ, suc, _*_, _^_, _≤_}
+use Prim.Native.Nat.{ℕ, suc, _*_, _^_}
 use lib.IntN.{ℤ, pos, negsuc}
 use lib.Dec.{T}
 use lib.Ieee.{Float, le, lt, eq}

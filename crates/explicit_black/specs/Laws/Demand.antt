@@ -21,7 +21,7 @@ use Rattle.arithmetic.specs.Laws.Times.{Times}
 use Rattle.arithmetic.specs.Laws.Compare.{lt-is}
 use Rattle.arithmetic.specs.Laws.Sums.{sub-times, sub-finite}
 use Rattle.arithmetic.specs.Laws.Identities.{mul-swap}
-use Rattle.arithmetic.specs.Laws.Extremes.{times-zero}
+use Rattle.arithmetic.specs.Laws.Extremes.{times-zero, times-refl}
 use Rattle.arithmetic.specs.Laws.ScaledRatios.{PositiveNormal, plus, num-above}
 use Rattle.arithmetic.specs.Laws.SqrtBounds.{roots-times}
 use Rattle.bs_option_price.specs.BsOptionPrice.{negativeAbsLogMoneyness}
@@ -31,7 +31,7 @@ use Rattle.explicit_black.specs.Quote.{Outcome, refused, firstRefusal, f
 use Rattle.explicit_black.specs.Demand.{Exactly, ComparableFigures, ComparableTimes, compared}
 use Rattle.explicit_black.specs.Laws.Steps.{Plain, from-price-times}
 use Rattle.explicit_black.specs.Laws.Quote.{compared-input}
-use Rattle.explicit_black.specs.Laws.ZeroPrice.{zeroOf, plusZero-is, is-false, zeros, zero-from-price}
+use Rattle.explicit_black.specs.Laws.ZeroPrice.{zeroOf, plusZero-is, refuted, zeros, zero-from-price}
 use Rattle.explicit_black.specs.Laws.Powers.{comparable, four-times}
 
 -- ---- times: both zero, or both finite and above zero
@@ -57,7 +57,7 @@ zero-time (fin s m e) h =
     let same : a ≡ b = eqb→eq a b (and-l (eqb a b) (Bool·beq s false || eqb a 0) h) in
     record {
       finite-time = refl;
-      no-less = is-false (below s a false b) (not-below s a b (down e) same refl);
+      no-less = refuted (below s a false b) (not-below s a b (down e) same refl);
       is-zero = is-true (level s a false b) h;
     }
 
@@ -72,8 +72,8 @@ positive-time (fin false m e) p h =
     let above : b < a = ltb→lt b a h in
     record {
       finite-time = refl;
-      no-less = is-false (ltb a b) (λ u. lt-back b a above (ltb→lt a b u));
-      is-zero = is-false (level false a false b) (λ u. lt-self b a (sym (eqb→eq a b (and-l (eqb a b) true u))) above);
+      no-less = refuted (ltb a b) (λ u. lt-back b a above (ltb→lt a b u));
+      is-zero = refuted (level false a false b) (λ u. lt-self b a (sym (eqb→eq a b (and-l (eqb a b) true u))) above);
     }
   where
     lt-self : (a b : ℕ) → a ≡ b → a < b → ⊥
@@ -121,9 +121,6 @@ from-quote-is side p f k t z P h w =
     go false c = refl
 
 -- ---- a call of forward f and strike k is a put of forward k and strike f
-times-one : (x : Float) → T (finite x) → Times 0 x x
-times-one x p = record { finite-l = p; finite-r = p; sign = refl; value = rw (mul-one (num x)) }
-
 swapped : (f k : Float) → BoundedRatio f k → BoundedRatio k f
 swapped f k h = record { forward = h .strike; strike = h .forward; not-over = h .not-under; not-under = h .not-over }
 
@@ -134,7 +131,7 @@ exchanged call p f k t h = go call
     roots = mul-swap binary64 (sqrt f) (sqrt k)
 
     logs : negativeAbsLogMoneyness f k ≡ negativeAbsLogMoneyness k f
-    logs = log-swap 0 k f f k (swapped f k h) h (times-one k (h .strike .bounded)) (times-one f (h .forward .bounded))
+    logs = log-swap 0 k f f k (swapped f k h) h (times-refl k (h .strike .bounded)) (times-refl f (h .forward .bounded))
 
     go : (call : Bool) → afterTests (not call) p f k t ≡ afterTests call p k f t
     go true = rw (roots, logs)

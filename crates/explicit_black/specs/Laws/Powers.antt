@@ -10,7 +10,7 @@ use lib.Dec.{T, eqb, le→leb, lit≤}
 use lib.Ieee.{Float, binary64, round, add, sub, mul, div, neg, lt, le, eq, isNan, ofBits}
 use lib.Ieee.Scale.{finite}
 use lib.Ieee.Positive.{num, den}
-use Rattle.arithmetic.specs.Operations.{_⊖_, _⊘_, bits, plusZero, half, one, two, minPositive, infinity}
+use Rattle.arithmetic.specs.Operations.{_⊖_, bits, plusZero, half, one, two, minPositive, infinity}
 use Rattle.arithmetic.specs.Basic.{isSignMinus, abs, max, min}
 use Rattle.arithmetic.specs.Sqrt.{sqrt}
 use Rattle.arithmetic.specs.Exp.{exp}

@@ -15,7 +15,7 @@ use Rattle.arithmetic.specs.Laws.Choices.{in-both}
 use Rattle.arithmetic.specs.Laws.ExpFits.{exp-fits}
 use Rattle.special_function.specs.NormalDistribution.{inverseNormCdf}
 use Rattle.explicit_black.specs.declared.bracket.Bracket.{Bracket}
-use Rattle.explicit_black.specs.Counted.{Option, some, none, Counted, atOnce, orElse}
+use Rattle.explicit_black.specs.Counted.{Option, some, none, Counted, orElse}
 use Rattle.explicit_black.specs.Loops.{Next, go, stop, Loop, step, iterate}
 use Rattle.explicit_black.specs.Curves.{finitePositive, inverseGaussianPdf, inverseGaussianCdf}
 use Rattle.explicit_black.specs.Curves.{inverseGaussianQuantileInitialGuess, inverseGaussianQuantileInitialGuessFromZ, startingPoint}

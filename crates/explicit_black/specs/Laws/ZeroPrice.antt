@@ -5,11 +5,11 @@ use native.Mathlib.Nat.{zero-mul, mul-one, one-mul, add-zero, mul-pos, lt-irrefl
 use native.Mathlib.Omega.{arith}
 use mathlib.Core.Bool.{Bool, true, false, _&&_, _||_, Bool·beq, cond, or-true, false≢true}
 use lib.IntN.{pos, negsuc}
-use lib.Dec.{T, eqb, ltb, eqb→eq, ltb→lt, lt→ltb, leb·suc-zero, eqb·suc-zero}
+use lib.Dec.{T, not-T, eqb, ltb, eqb→eq, ltb→lt, lt→ltb, leb·suc-zero, eqb·suc-zero}
 use lib.Pow.{pow-pos}
 use lib.Ieee.{Float, nan, inf, fin, binary64, low, prec, emax, up, down, unlike, fits, le, lt, eq, sub, div, sum, round, below, level, ofBits}
 use lib.Ieee.Fits.{up-pos}
-use lib.Ieee.Bits.{is-true}
+use lib.Ieee.Bits.{is-true, is-false}
 use lib.Ieee.Exact.{HasValue, round-exact}
 use lib.Ieee.Scale.{finite}
 use lib.Ieee.Positive.{num, den, den-pos}
@@ -32,9 +32,8 @@ pub plusZero-is : plusZero ≡ zeroOf false
 unfolding ofBits
 plusZero-is = refl
 
-pub is-false : (b : Bool) → (T b → ⊥) → b ≡ false
-is-false true n = absurd (n tt)
-is-false false n = refl
+pub refuted : (b : Bool) → (T b → ⊥) → b ≡ false
+refuted b n = is-false b (not-T b n)
 
 -- ---- a zero that fits is one of the two
 no-power : (k : ℕ) → 2 ^ suc k ≡ 1 → ⊥
@@ -88,13 +87,13 @@ bound-above s b o =
     let m = 0 * den b in
     let up : 0 < n = subst (λ (k : ℕ). 0 < k) (sym (mul-one (num b))) (num-above b o) in
     let l : lt b z ≡ false = lt-is b z (o .bounded) tt ∙ ap (λ (t : Bool). below t n s m) (plus b o) ∙ go s in
-    let differ : eqb n m ≡ false = is-false (eqb n m) (λ t. above-zero n m up (zero-mul (den b)) (eqb→eq n m t)) in
+    let differ : eqb n m ≡ false = refuted (eqb n m) (λ t. above-zero n m up (zero-mul (den b)) (eqb→eq n m t)) in
     let q : eq b z ≡ false = eq-is b z (o .bounded) tt ∙ ap (λ (t : Bool). t && (Bool·beq (isSignMinus b) s || eqb n 0)) differ in
     rw (l, q)
   where
     go : (s : Bool) → below false (num b * 1) s (0 * den b) ≡ false
     go true = refl
-    go false = is-false (ltb (num b * 1) (0 * den b)) (λ t. not-under (num b * 1) (0 * den b) (zero-mul (den b)) (ltb→lt (num b * 1) (0 * den b) t))
+    go false = refuted (ltb (num b * 1) (0 * den b)) (λ t. not-under (num b * 1) (0 * den b) (zero-mul (den b)) (ltb→lt (num b * 1) (0 * den b) t))
 
 -- ---- a zero less a value above 0
 both-ways : (a b : ℕ) → a ≡ 0 → a + b ≡ b - a

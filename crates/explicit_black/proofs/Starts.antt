@@ -9,7 +9,7 @@ use Rattle.explicit_black.specs.Loops.{go, Ends}
 use Rattle.explicit_black.specs.Curves.{finitePositive, inverseGaussianQuantileInitialGuess, inverseGaussianQuantileInitialGuessFromZ, startingPoint}
 use Rattle.explicit_black.specs.Bracket.{doubledFrom, doublingLoop, doublings, halved, halvingLoop, halvings}
 use Rattle.explicit_black.specs.Survival.{cappedFrom, survivalDoublingLoop, survivalHalvingLoop}
-use Rattle.explicit_black.specs.Laws.Roots.{guess-held}
+use Rattle.explicit_black.specs.Laws.Roots.{guess-fits}
 use Rattle.explicit_black.proofs.DoublingEnds.{ends-below, survival-ends-below}
 use Rattle.explicit_black.proofs.HalvingEnds.{ends-above, survival-ends-above}
 use Rattle.explicit_black.proofs.Searches.{start-finite-positive}
@@ -25,7 +25,7 @@ survival-start p mu = startingPoint (inverseGaussianQuantileInitialGuessFromZ (n
 module _ (p mu : Float) (h : finitePositive mu ≡ true) (f : fits binary64 mu ≡ true) where
   fit : fits binary64 (quantile-start p mu) ≡ true
   unfolding inverseGaussianQuantileInitialGuess
-  fit = is-true _ (guess-held (inverseNormCdf p) mu (subst T (sym f) tt))
+  fit = is-true _ (guess-fits (inverseNormCdf p) mu (subst T (sym f) tt))
 
   pub quantile-doubling-ends : Ends (doublingLoop mu p) doublings (go (doubledFrom (quantile-start p mu)))
   quantile-doubling-ends = ends-below mu p (quantile-start p mu) (start-finite-positive (inverseGaussianQuantileInitialGuess p mu) mu (quantile-start p mu) h refl) fit
@@ -34,7 +34,7 @@ module _ (p mu : Float) (h : finitePositive mu ≡ true) (f : fits binary64 mu �
   quantile-halving-ends = ends-above mu p (quantile-start p mu) (start-finite-positive (inverseGaussianQuantileInitialGuess p mu) mu (quantile-start p mu) h refl) fit
 
   survival-fit : fits binary64 (survival-start p mu) ≡ true
-  survival-fit = is-true _ (guess-held (neg (inverseNormCdf p)) mu (subst T (sym f) tt))
+  survival-fit = is-true _ (guess-fits (neg (inverseNormCdf p)) mu (subst T (sym f) tt))
 
   survival-finite-positive : finitePositive (survival-start p mu) ≡ true
   survival-finite-positive = start-finite-positive (inverseGaussianQuantileInitialGuessFromZ (neg (inverseNormCdf p)) mu) mu (survival-start p mu) h refl

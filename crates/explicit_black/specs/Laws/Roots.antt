@@ -178,9 +178,9 @@ survival-iterations-fits mu p b x h =
     64 (go (b, x)) h
 
 -- ---- where the searches start
-pub guess-held : (z mu : Float) → T (fits binary64 mu) → T (fits binary64 (startingPoint (inverseGaussianQuantileInitialGuessFromZ z mu) mu))
+pub guess-fits : (z mu : Float) → T (fits binary64 mu) → T (fits binary64 (startingPoint (inverseGaussianQuantileInitialGuessFromZ z mu) mu))
 unfolding startingPoint inverseGaussianQuantileInitialGuessFromZ
-guess-held z mu h = cond-fits binary64 (finitePositive (inverseGaussianQuantileInitialGuessFromZ z mu)) _ _ (mul-fits binary64 _ _) h
+guess-fits z mu h = cond-fits binary64 (finitePositive (inverseGaussianQuantileInitialGuessFromZ z mu)) _ _ (mul-fits binary64 _ _) h
 
 clamped-fits : (b : Bracket) (x : Float) → BoundsFit b → Fits x → Fits (clamped b x)
 unfolding clamped
@@ -196,7 +196,7 @@ bracketed-fits : (p mu : Float) → Fits mu → Fits (inverseGaussianQuantileBra
 unfolding inverseGaussianQuantileBracketed inverseGaussianQuantileInitialGuess bracketAt
 bracketed-fits p mu h =
     let x = startingPoint (inverseGaussianQuantileInitialGuess p mu) mu in
-    let g = guess-held (inverseNormCdf p) mu h in
+    let g = guess-fits (inverseNormCdf p) mu h in
     let bounds = in-both BracketFound (lt (inverseGaussianCdf x mu) p) (from-below-fits x mu p g) (from-above-fits x mu p g) in
     iterations-fits mu p _ _ (clamped-fits _ x bounds g)
 
@@ -223,4 +223,4 @@ in-bracket-fits mu p x none h = tt
 pub from-survival-fits : (p mu x : Float) → T (fits binary64 mu) → inverseGaussianQuantileFromSurvival p mu .result ≡ some x → T (fits binary64 x)
 unfolding inverseGaussianQuantileFromSurvival survivalSearch
 from-survival-fits p mu x h e =
-    subst RootFits e (in-both SearchFits (solvable p mu) (in-bracket-fits mu p _ _ (guess-held (neg (inverseNormCdf p)) mu h)) tt)
+    subst RootFits e (in-both SearchFits (solvable p mu) (in-bracket-fits mu p _ _ (guess-fits (neg (inverseNormCdf p)) mu h)) tt)

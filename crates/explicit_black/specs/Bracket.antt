@@ -55,7 +55,7 @@ halved x upper =
     cond (le (x ⊗ half) minPositive) (stop (record { lower = plusZero; upper = upper }))
     (go (record { lower = x ⊗ half; upper = upper }))
 
--- by the distribution v at the lower bound: it stops where that is at most p
+-- by the distribution v at the lower bound: it stops where that is at most p; else twice that bound becomes the upper one, and its half the lower
 unfoldable pub lowered : Float → Bracket → Float → Next Bracket Bracket
 lowered p b v = cond (le v p) (stop b) (halved (b .lower) (b .lower ⊗ two))
 

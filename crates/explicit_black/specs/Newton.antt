@@ -28,7 +28,7 @@ inverseGaussianCdfStandardized x phi = inverseGaussianCdf (x ⊗ phi) phi
 abbrev pub inverseGaussianPdfStandardized : Float → Float → Float
 inverseGaussianPdfStandardized x phi = phi ⊗ inverseGaussianPdf (x ⊗ phi) phi
 
--- a step's numerator, the probability less cdf: by their logarithms where these differ by less than 1.0e-5
+-- a step's numerator, the probability less a cdf above 0: by their logarithms where these differ by less than 1.0e-5
 unfoldable pub numerator : Float → Float → Float → Float
 numerator cdf probability logProbability =
     let delta = logProbability ⊖ ln cdf in

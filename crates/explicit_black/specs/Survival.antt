@@ -19,7 +19,7 @@ use Rattle.explicit_black.specs.Quantile.{solvable}
 unfoldable pub cappedFrom : Float → Bracket
 cappedFrom x = record { lower = x; upper = min (x ⊗ two) maxFinite }
 
--- by the survival v at the upper bound
+-- by the survival v at the upper bound: it stops where that is at most p, or without a bracket where the bound cannot be doubled
 unfoldable pub survivalWidened : Float → Bracket → Float → Next Bracket (Option Bracket)
 survivalWidened p b v =
     cond (le v p) (stop (some b))
@@ -41,7 +41,7 @@ survivalFromBelow initial mu p = iterate (survivalDoublingLoop mu p) doublings (
 
 -- ---- the halving
 
--- by the survival v at the lower bound; both bounds become that bound where it is below p
+-- by the survival v at the lower bound: it stops where that is at least p; else that bound becomes the upper one, and its half the lower
 unfoldable pub survivalLowered : Float → Bracket → Float → Next Bracket Bracket
 survivalLowered p b v = cond (le p v) (stop b) (halved (b .lower) (b .lower))
 

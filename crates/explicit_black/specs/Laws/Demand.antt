@@ -82,9 +82,9 @@ positive-time (fin false m e) p h =
     lt-back : (a b : ℕ) → a < b → b < a → ⊥
     lt-back a b h g = omega arith
 
-tested : (t t' : Float) → ComparableTimes t t' → (z : Bool) × TimeTested t z × TimeTested t' z
-tested t t' (inl (a, b)) = (true, zero-time t a, zero-time t' b)
-tested t t' (inr (a, b, c, d)) = (false, positive-time t a b, positive-time t' c d)
+times-tested : (t t' : Float) → ComparableTimes t t' → (z : Bool) × TimeTested t z × TimeTested t' z
+times-tested t t' (inl (a, b)) = (true, zero-time t a, zero-time t' b)
+times-tested t t' (inr (a, b, c, d)) = (false, positive-time t a b, positive-time t' c d)
 
 -- ---- figures that pass tests 2, 3 and 4
 above-plusZero : (x : Float) → PositiveNormal x → lt plusZero x ≡ true
@@ -267,10 +267,10 @@ scaled-up n p f k t p' f' k' t' o o' z w w' hp hf hk side =
 module _ (p f k t p' f' k' t' : Float) (o : ComparableValues p f k) (o' : ComparableValues p' f' k') (w : ComparableTimes t t') where
   pub same-outcome : (n : ℤ) (side : ℕ) → Exactly n p p' → Exactly n f f' → Exactly n k k' → fromQuote side p' f' k' t' ≡ fromQuote side p f k t
   same-outcome (pos n) side hp hf hk =
-      let (z, u, v) = tested t t' w in
+      let (z, u, v) = times-tested t t' w in
       scaled-up n p f k t p' f' k' t' o o' z u v (upward n p p' hp) (upward n f f' hf) (upward n k k' hk) side
   same-outcome (negsuc n) side hp hf hk =
-      let (z, u, v) = tested t t' w in
+      let (z, u, v) = times-tested t t' w in
       sym (scaled-up (suc n) p' f' k' t' p f k t o' o z v u (downward n p p' hp) (downward n f f' hf) (downward n k k' hk) side)
 
 -- a put, and a call, as the other with forward and strike exchanged
@@ -287,7 +287,7 @@ module _ (p f k t p' f' k' t' : Float) (o : ComparableValues p f k) (o' : Compar
   pub other-outcome : (n : ℤ) → Exactly n p p' → Exactly n k f' → Exactly n f k'
       → (fromQuote 1 p' f' k' t' ≡ fromQuote 0 p f k t) × (fromQuote 0 p' f' k' t' ≡ fromQuote 1 p f k t)
   other-outcome n hp hk hf =
-      let (z, u, v) = tested t t' w in
+      let (z, u, v) = times-tested t t' w in
       let other = other-quote p' f' k' t' z o' v in
       let pair = swapped f' k' (o' .pair) in
       let o'' : ComparableValues p' k' f' = record { held = o' .held; bounded = o' .bounded; not-negative = o' .not-negative; pair = pair } in (

@@ -79,11 +79,11 @@ fours-kept = (refl, refl, refl)
 -- Two calls that meet the terms of demand 3, but that the second's figures are exactly 2 times the first's. Both are answered without an evaluation,
 -- and not alike.
 pub record Doubled (p f k p' f' k' : Float) (r r' : Outcome) : Type 0 where
-  pub first : ComparableFigures p f k
-  pub second : ComparableFigures p' f' k'
-  pub price : Times 1 p p'
-  pub forward : Times 1 f f'
-  pub strike : Times 1 k k'
+  pub first-comparable : ComparableFigures p f k
+  pub second-comparable : ComparableFigures p' f' k'
+  pub price-doubled : Times 1 p p'
+  pub forward-doubled : Times 1 f f'
+  pub strike-doubled : Times 1 k k'
   pub first-reply : call p f k ≡ atOnce r
   pub second-reply : call p' f' k' ≡ atOnce r'
   pub differ : call p' f' k' ≡ call p f k → ⊥
@@ -126,11 +126,11 @@ two-two = refl
 pub totals-differ : Doubled half one one one two two (total halfOfOne) (total halfOfTwo)
 unfolding ofBits le
 totals-differ = record {
-  first = comparable half one one tt tt tt tt tt tt (lit≤ tt) (lit≤ tt);
-  second = comparable one two two tt tt tt tt tt tt (lit≤ tt) (lit≤ tt);
-  price = times-two half one tt tt refl refl;
-  forward = times-two one two tt tt refl refl;
-  strike = times-two one two tt tt refl refl;
+  first-comparable = comparable half one one tt tt tt tt tt tt (lit≤ tt) (lit≤ tt);
+  second-comparable = comparable one two two tt tt tt tt tt tt (lit≤ tt) (lit≤ tt);
+  price-doubled = times-two half one tt tt refl refl;
+  forward-doubled = times-two one two tt tt refl refl;
+  strike-doubled = times-two one two tt tt refl refl;
   first-reply = one-one;
   second-reply = two-two;
   differ = answers-differ _ _ (total halfOfOne) (total halfOfTwo) one-one two-two (λ e. other (cc));
@@ -151,11 +151,11 @@ at-twelve = refl
 pub refusals-differ : Doubled belowSix six nineteen belowTwelve twelve thirtyEight (total infinity) (refused 8)
 unfolding ofBits le
 refusals-differ = record {
-  first = comparable belowSix six nineteen tt tt tt tt tt tt (lit≤ tt) (lit≤ tt);
-  second = comparable belowTwelve twelve thirtyEight tt tt tt tt tt tt (lit≤ tt) (lit≤ tt);
-  price = times-two belowSix belowTwelve tt tt refl refl;
-  forward = times-two six twelve tt tt refl refl;
-  strike = times-two nineteen thirtyEight tt tt refl refl;
+  first-comparable = comparable belowSix six nineteen tt tt tt tt tt tt (lit≤ tt) (lit≤ tt);
+  second-comparable = comparable belowTwelve twelve thirtyEight tt tt tt tt tt tt (lit≤ tt) (lit≤ tt);
+  price-doubled = times-two belowSix belowTwelve tt tt refl refl;
+  forward-doubled = times-two six twelve tt tt refl refl;
+  strike-doubled = times-two nineteen thirtyEight tt tt refl refl;
   first-reply = at-six;
   second-reply = at-twelve;
   differ = answers-differ _ _ (total infinity) (refused 8) at-six at-twelve (λ e. never (cc));
@@ -171,11 +171,11 @@ pub record RatioOver (price forward strike : Float) : Type 0 where
 
 -- two such calls, the figures of the second exactly 4 times those of the first, which are not answered alike
 pub record BeyondRatio (p f k p' f' k' : Float) : Type 0 where
-  pub first : RatioOver p f k
-  pub second : RatioOver p' f' k'
-  pub price : Exactly (pos 1) p p'
-  pub forward : Exactly (pos 1) f f'
-  pub strike : Exactly (pos 1) k k'
+  pub first-over : RatioOver p f k
+  pub second-over : RatioOver p' f' k'
+  pub price-fourfold : Exactly (pos 1) p p'
+  pub forward-fourfold : Exactly (pos 1) f f'
+  pub strike-fourfold : Exactly (pos 1) k k'
   pub differ : call p' f' k' ≡ call p f k → ⊥
 
 -- the outcome is refusal 8, which a normalised price below its bound does not have
@@ -243,10 +243,10 @@ four-times x y a b e s = record { finite-x = a; finite-y = b; fraction = e; sign
 pub ratio-limited : BeyondRatio farPrice farForward farStrike fourFarPrice fourFarForward fourFarStrike
 unfolding ofBits le isEight
 ratio-limited = record {
-  first = ratio-over farPrice farForward farStrike (figures-in-range _ _ _ tt tt tt tt tt tt) (lit≤ tt) (λ h. le→leb _ _ h);
-  second = ratio-over fourFarPrice fourFarForward fourFarStrike (figures-in-range _ _ _ tt tt tt tt tt tt) (lit≤ tt) (λ h. le→leb _ _ h);
-  price = four-times farPrice fourFarPrice tt tt refl refl;
-  forward = four-times farForward fourFarForward tt tt refl refl;
-  strike = four-times farStrike fourFarStrike tt tt refl refl;
+  first-over = ratio-over farPrice farForward farStrike (figures-in-range _ _ _ tt tt tt tt tt tt) (lit≤ tt) (λ h. le→leb _ _ h);
+  second-over = ratio-over fourFarPrice fourFarForward fourFarStrike (figures-in-range _ _ _ tt tt tt tt tt tt) (lit≤ tt) (λ h. le→leb _ _ h);
+  price-fourfold = four-times farPrice fourFarPrice tt tt refl refl;
+  forward-fourfold = four-times farForward fourFarForward tt tt refl refl;
+  strike-fourfold = four-times farStrike fourFarStrike tt tt refl refl;
   differ = λ e. true≢false (sym (ap eight far-refused) ∙ ap eight (e ∙ far-searched) ∙ price-not-eight _ _);
 }

@@ -118,7 +118,7 @@ kind-facts c k = record {
   ends = λ v e z. kind-ends c v k e z;
 }
 
--- of the refusals of tests 1 to 4
+-- they hold of the refusals of tests 1 to 4
 refused-facts : (m : ℕ) → 1 ≤ m → m ≤ 4 → Facts (atOnce (refused m))
 refused-facts m l h = record {
   few = lit≤ tt;

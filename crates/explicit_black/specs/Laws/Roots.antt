@@ -28,7 +28,7 @@ use Rattle.explicit_black.specs.Quantile.{inverseGaussianQuantileBracket
 use Rattle.explicit_black.specs.Survival.{survivalNewton, survivalMoved, survivalTightOr, survivalIteration, survivalIterationLoop}
 use Rattle.explicit_black.specs.Survival.{survivalIterations, survivalIterationsIn, survivalSearch, inverseGaussianQuantileFromSurvival}
 
--- ---- finite and above 0
+-- ---- what is finite and above 0 is `positive` of lib.Ieee
 pub finitePositive-positive : (x : Float) → finitePositive x ≡ true → T (positive x)
 unfolding lt ofBits
 finitePositive-positive nan h = absurd (false≢true h)

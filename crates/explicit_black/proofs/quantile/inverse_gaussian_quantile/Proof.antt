@@ -1,4 +1,4 @@
--- `viewQuantile::inverse_gaussian_quantile` meets its contract. Assumes nothing.
+-- `quantile::inverse_gaussian_quantile` meets its contract. Assumes nothing.
 use borrow.Author.Needs.{needs}
 use mathlib.Core.Path.{sym, ap, _∙_}
 use Rattle.arithmetic.specs.Laws.Numbers.{denied, affirmed}

@@ -1,4 +1,4 @@
--- `Solved::reply` meets its contract: the count is what was taken off. Assumes nothing.
+-- `quote::Solved::reply` meets its contract: the count is what was taken off. Assumes nothing.
 use borrow.Author.Needs.{needs}
 use mathlib.Core.Path.{sym, ap, _∙_, subst}
 use Rattle.explicit_black.specs.Internal.Quote.{viewSolved, LeftWithin}

@@ -2,6 +2,7 @@
 pub mod Units
 pub mod DoublingEnds
 pub mod HalvingEnds
+pub mod Turns
 pub mod Searches
 pub mod Starts
 pub mod BoundsMet

@@ -67,8 +67,8 @@ returns c =
 returns-2 : tie.Need-returns-2 Inv-loop μ-loop
 returns-2 c =
     let at-cdf = c .before .before in
-    some-spent _ _
-    (carried-spent _ (open-trial (at-cdf .before .before)) (seen viewEvaluation (at-cdf .inverse-gaussian-cdf .ensures) (c .enum-told .given .1)))
+    let no-value = seen viewEvaluation (at-cdf .inverse-gaussian-cdf .ensures) (c .enum-told .given .1) in
+    some-spent _ _ (carried-spent _ (open-trial (at-cdf .before .before)) no-value)
 
 pub bracket-quantile-from-above-spec : {M : Type 1} → statement M
 bracket-quantile-from-above-spec =

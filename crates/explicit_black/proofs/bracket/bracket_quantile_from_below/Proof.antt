@@ -55,7 +55,8 @@ turn c =
 returns : tie.Need-returns Inv-loop μ-loop
 returns c =
     let at-cdf = c .before .before in
-    some-spent _ _ (carried-spent _ (at-cdf .before .loop .inv) (seen viewEvaluation (at-cdf .inverse-gaussian-cdf .ensures) (c .enum-told .given .1)))
+    let no-value = seen viewEvaluation (at-cdf .inverse-gaussian-cdf .ensures) (c .enum-told .given .1) in
+    some-spent _ _ (carried-spent _ (at-cdf .before .loop .inv) no-value)
 
 returns-2 : tie.Need-returns-2 Inv-loop μ-loop
 returns-2 c =

@@ -51,7 +51,8 @@ returns-2 c =
 returns-3 : tie.Need-returns-3 Inv-loop μ-loop
 returns-3 c =
     let at-cdf = c .before .before in
-    left-no-value _ (open-step (at-cdf .before .before)) (omega arith) (seen viewEvaluation (at-cdf .inverse-gaussian-cdf .ensures) (c .enum-told2 .given .1))
+    let no-value = seen viewEvaluation (at-cdf .inverse-gaussian-cdf .ensures) (c .enum-told2 .given .1) in
+    left-no-value _ (open-step (at-cdf .before .before)) (omega arith) no-value
 
 loop-again : tie.Need-loop-again Inv-loop μ-loop
 loop-again c =

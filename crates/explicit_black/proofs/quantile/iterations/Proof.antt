@@ -51,8 +51,8 @@ turn c =
 returns : tie.Need-returns Inv-loop μ-loop
 returns c =
     let at-cdf = c .before .before in
-    some-spent _ _
-    (left-no-value _ (at-cdf .before .before .loop .inv .0) (omega arith) (seen viewEvaluation (at-cdf .inverse-gaussian-cdf .ensures) (c .enum-told .given .1)))
+    let no-value = seen viewEvaluation (at-cdf .inverse-gaussian-cdf .ensures) (c .enum-told .given .1) in
+    some-spent _ _ (left-no-value _ (at-cdf .before .before .loop .inv .0) (omega arith) no-value)
 
 returns-2 : tie.Need-returns-2 Inv-loop μ-loop
 returns-2 c =

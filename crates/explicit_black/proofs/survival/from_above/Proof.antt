@@ -68,8 +68,8 @@ returns c =
 returns-2 : tie.Need-returns-2 Inv-loop μ-loop
 returns-2 c =
     let at-survival = c .before .before in
-    some-spent _ _
-    (carried-spent _ (open-trial (at-survival .before .before)) (seen (viewSurvivalEvaluation _) (at-survival .inverse-gaussian-survival .ensures) (c .enum-told .given .1)))
+    let no-value = seen (viewSurvivalEvaluation _) (at-survival .inverse-gaussian-survival .ensures) (c .enum-told .given .1) in
+    some-spent _ _ (carried-spent _ (open-trial (at-survival .before .before)) no-value)
 
 pub from-above-spec : {M : Type 1} → statement M
 from-above-spec =

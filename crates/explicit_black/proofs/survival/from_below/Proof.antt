@@ -56,7 +56,8 @@ turn c =
 returns : tie.Need-returns Inv-loop μ-loop
 returns c =
     let at-survival = c .before .before in
-    carried-spent _ (at-survival .before .loop .inv) (seen (viewSurvivalEvaluation _) (at-survival .inverse-gaussian-survival .ensures) (c .enum-told .given .1))
+    let no-value = seen (viewSurvivalEvaluation _) (at-survival .inverse-gaussian-survival .ensures) (c .enum-told .given .1) in
+    carried-spent _ (at-survival .before .loop .inv) no-value
 
 returns-2 : tie.Need-returns-2 Inv-loop μ-loop
 returns-2 c =

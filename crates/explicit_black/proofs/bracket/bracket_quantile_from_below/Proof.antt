@@ -40,7 +40,8 @@ rest at-value = at-value .cdf .given .0 .1 .1 .0 .left
 -- one turn, from the loop's bracket to what `widened` makes of the value at its upper bound
 turn : (c : tie.After-widened Inv-loop μ-loop) →
     let at-value = c .before .before in
-    let at-loop = at-value .before .before .before in
+    let at-cdf = at-value .before .before in
+    let at-loop = at-cdf .before in
     let args = at-loop .before .before .args in
     Turned (doublingLoop (args .mu) (args .probability)) doublings
     (whole (args .initial) (args .mu) (args .probability) (args .allowed .left))

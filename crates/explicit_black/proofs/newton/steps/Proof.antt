@@ -28,7 +28,8 @@ loop-holds c = (record { same = refl }, omega arith)
 
 -- the invariant where another step is to be made
 open-step : (c : tie.After-next2 Inv-loop μ-loop) →
-    let at-loop = c .before .before .before in
+    let at-match = c .before in
+    let at-loop = at-match .before .before in
     let args = at-loop .before .args in
     Left (newtonLoop (args .probability) (args .log-probability) (args .mu)) (100 - at-loop .loop .counter)
     (limited (args .allowed .left) (steps (args .probability) (args .log-probability) (args .mu) (viewStepped (args .begin))))

@@ -19,7 +19,8 @@ returns c = unsolvable _ _ _ (denied _ _ (c .before .is-solvable .ensures) (c .i
 
 inverse-gaussian-quantile-bracketed-requires : tie.Need-inverse-gaussian-quantile-bracketed-requires
 inverse-gaussian-quantile-bracketed-requires c κs =
-    let at-filter = c .before .before .before in
+    let no-root = c .before in
+    let at-filter = no-root .before .before in
     let at-test = at-filter .before .before in
     let start = at-test .before .before in
     solvable-finite-positive (start .args .probability) (start .args .mu) (passed at-test)

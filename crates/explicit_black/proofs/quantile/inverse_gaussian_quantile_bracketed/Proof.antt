@@ -17,13 +17,15 @@ returns c = no-guess _ _ _ _ (seen viewEvaluation (c .before .before .inverse-ga
 
 bracket-at-requires : tie.Need-bracket-at-requires
 bracket-at-requires c κs =
-    let at-cdf = c .before .before .before in
+    let at-value = c .before in
+    let at-cdf = at-value .before .before in
     let at-start = at-cdf .before in
     start-finite-positive _ _ _ (at-start .before .before .pre) (at-start .starting-point .ensures)
 
 -- what follows from the value at the starting point is what the whole gives
 from-value : (c : tie.After-cdf) {q : Metered (Option Float)} →
-    let at-start = c .before .before .before in
+    let at-cdf = c .before .before in
+    let at-start = at-cdf .before in
     let args = at-start .before .before .args in
     q ≡ limited (c .cdf .given .0 .1 .1 .0 .left) (bracketedFrom (args .probability) (args .mu) (at-start .starting-point .result) (c .cdf .given .0 .0))
     → q ≡ limited (args .allowed .left) (someOf (inverseGaussianQuantileBracketed (args .probability) (args .mu)))

@@ -16,7 +16,10 @@ number s = firstRefusal (s .args .side) (s .args .price) (s .args .forward) (s .
 
 -- the arguments, from where tests 1 and 2 are passed
 abbrev start : tie.Else3 → tie.Start
-start c = let at-price = c .before .before .before in at-price .before .before
+start c =
+    let at-strike = c .before in
+    let at-price = at-strike .before .before in
+    at-price .before .before
 
 past-test-2 : (c : tie.Else3) →
     let s = start c in

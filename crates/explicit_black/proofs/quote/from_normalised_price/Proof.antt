@@ -11,8 +11,9 @@ use Rattle.explicit_black.proofs.quote.from_normalised_price.Tie as tie
 
 -- what is left of the definition past test 7, with the locals `abs_x` and `b_max`
 past-test-7 : (c : tie.After-exp) →
-    let args = c .before .before .before .args in
-    let abs-x = c .before .abs .result in
+    let at-abs = c .before in
+    let args = at-abs .before .before .args in
+    let abs-x = at-abs .abs .result in
     let b-max = c .exp .result in
     fromNormalisedPrice (args .log-moneyness) (args .price)
     ≡ cond (le b-max (args .price)) (atOnce (cond (eq (args .price) b-max) (total infinity) (refused 8)))

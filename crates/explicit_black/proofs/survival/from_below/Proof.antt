@@ -41,7 +41,8 @@ rest at-value = at-value .survival .given .0 .1 .1 .1 .0 .left
 -- one turn, from the loop's bracket to what `survival_widened` makes of the value at its upper bound
 turn : (c : tie.After-survival-widened Inv-loop μ-loop) →
     let at-value = c .before .before in
-    let at-loop = at-value .before .before .before in
+    let at-survival = at-value .before .before in
+    let at-loop = at-survival .before in
     let args = at-loop .before .before .args in
     Turned (survivalDoublingLoop (args .mu) (args .probability)) doublings
     (whole (args .initial) (args .mu) (args .probability) (args .allowed .left))

@@ -26,24 +26,29 @@ returns c = survival-unsolvable _ _ _ (denied _ _ (c .before .is-solvable .ensur
 returns-2 : tie.Need-returns-2
 returns-2 c =
     let at-survival = c .before .before in
-    let at-norm-cdf = at-survival .before .before .before in
+    let at-start = at-survival .before in
+    let at-norm-cdf = at-start .before .before in
     survival-no-guess _ _ _ _ (passed (at-norm-cdf .before))
     (seen (viewSurvivalEvaluation _) (at-survival .inverse-gaussian-survival .ensures) (c .enum-told .given .1))
 
 survival-bracket-at-requires : tie.Need-survival-bracket-at-requires
 survival-bracket-at-requires c κs =
-    let at-survival = c .before .before .before in
+    let at-value = c .before in
+    let at-survival = at-value .before .before in
     let at-start = at-survival .before in
-    let at-test = at-start .before .before .before in
+    let at-norm-cdf = at-start .before .before in
+    let at-test = at-norm-cdf .before in
     let start = at-test .before .before in
     start-finite-positive _ _ _ (solvable-finite-positive (start .args .probability) (start .args .mu) (passed at-test))
     (at-start .starting-point .ensures)
 
 -- what follows from the value at the starting point is what the whole gives
 from-value : (c : tie.After-survival) {q : Metered (Option Float)} →
-    let at-start = c .before .before .before in
+    let at-survival = c .before .before in
+    let at-start = at-survival .before in
     let at-norm-cdf = at-start .before .before in
-    let args = at-norm-cdf .before .before .before .args in
+    let at-test = at-norm-cdf .before in
+    let args = at-test .before .before .args in
     q ≡ limited (c .survival .given .0 .1 .1 .1 .0 .left)
     (survivalFrom (args .probability) (args .mu) (at-start .starting-point .result) (c .survival .given .0 .0))
     → q ≡ limited (args .allowed .left) (inverseGaussianQuantileFromSurvival (args .probability) (args .mu))

@@ -34,7 +34,8 @@ loop-holds c = (record { same = refl }, omega arith)
 
 -- one iteration, from the loop's bracket and point to what `survival_iteration` makes of the value there
 turn : (c : tie.After-survival-iteration Inv-loop μ-loop) →
-    let at-value = c .before .before .before in
+    let at-pdf = c .before in
+    let at-value = at-pdf .before .before in
     let at-survival = at-value .before .before in
     let at-loop = at-survival .before .before in
     let args = at-loop .before .args in
@@ -42,11 +43,12 @@ turn : (c : tie.After-survival-iteration Inv-loop μ-loop) →
     (whole (args .mu) (args .probability) (args .start) (args .guess) (args .allowed .left))
     (at-value .survival .given .0 .1 .1 .1 .0 .left) (viewIteration (c .survival-iteration .result))
 turn c =
-    let at-value = c .before .before .before in
+    let at-pdf = c .before in
+    let at-value = at-pdf .before .before in
     let at-survival = at-value .before .before in
     iterated inverseGaussianSurvival survivalIteration (at-survival .before .before .loop .inv .0) (omega arith)
     (told (seen (viewSurvivalEvaluation _) (at-survival .inverse-gaussian-survival .ensures) (at-value .survival .given .1)))
-    (c .before .inverse-gaussian-pdf .ensures) (c .survival-iteration .ensures)
+    (at-pdf .inverse-gaussian-pdf .ensures) (c .survival-iteration .ensures)
 
 returns : tie.Need-returns Inv-loop μ-loop
 returns c =

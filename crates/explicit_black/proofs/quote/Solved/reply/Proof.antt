@@ -8,7 +8,8 @@ use Rattle.explicit_black.proofs.quote.Solved.reply.Tie as tie
 
 sub-t12 : tie.Need-sub-t12
 sub-t12 c =
-    let at-self = c .before .before .before in
+    let at-volatility = c .before in
+    let at-self = at-volatility .before .before in
     let start = at-self .before .before in
     rw (c .left .ensures) (subst (λ s. LeftWithin (start .args .allowed) (viewSolved s)) (at-self .self .given .1) (start .pre .1))
 
@@ -20,8 +21,9 @@ sub-t14 c =
 
 returns : tie.Need-returns
 returns c =
-    let at-self = c .before .before .before in
-    rw (c .left .ensures) (λ d e. answers _ _ _ _ d (sym (ap viewSolved (at-self .self .given .1)) ∙ e) (c .before .volatility .ensures))
+    let at-volatility = c .before in
+    let at-self = at-volatility .before .before in
+    rw (c .left .ensures) (λ d e. answers _ _ _ _ d (sym (ap viewSolved (at-self .self .given .1)) ∙ e) (at-volatility .volatility .ensures))
 
 returns-2 : tie.Need-returns-2
 returns-2 c =

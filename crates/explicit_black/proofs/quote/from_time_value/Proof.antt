@@ -1,4 +1,4 @@
--- `fromTimeValue` meets its contract: each return by the tests that led there. Assumes nothing.
+-- `quote::from_time_value` meets its contract: each return by the tests that led there. Assumes nothing.
 use Rattle.explicit_black.specs.Quote.{fromTimeValue}
 use Rattle.explicit_black.specs.Laws.Counted.{limited-now}
 use Rattle.explicit_black.proofs.quote.from_time_value.Statement.{statement}

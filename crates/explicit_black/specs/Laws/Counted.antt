@@ -7,7 +7,7 @@ use lib.Dec.{T, leb, leb→le, nleb→lt}
 use lib.Ieee.{Float}
 use native.Mathlib.Omega.{arith}
 use Rattle.arithmetic.specs.Laws.Choices.{by-test, never}
-use Rattle.explicit_black.specs.Counted.{Option, some, none, Sample, sample, Counted, atOnce, tick, then, someOf}
+use Rattle.explicit_black.specs.Counted.{some, Sample, sample, Counted, atOnce, tick, then, someOf}
 use Rattle.explicit_black.specs.Counted.{Metered, have, spent, mapped, allSome, limited}
 use Rattle.explicit_black.specs.Loops.{Next, go, stop, Loop, step, iterate, Ends}
 
@@ -63,11 +63,11 @@ pub tick-some : {R : Type 0} (n : ℕ) (v w : R) {m : ℕ} → (n ≡ 0 → ⊥)
 tick-some n v w h e l = rw (limited-enough n (tick (atOnce w)) (omega arith), l, e)
 
 -- ---- one search after another
-abbrev pub andThen : {R Q : Type 0} → Metered R → (R → ℕ → Metered Q) → Metered Q
+abbrev andThen : {R Q : Type 0} → Metered R → (R → ℕ → Metered Q) → Metered Q
 andThen (have r n) f = f r n
 andThen spent f = spent
 
-pub limited-then : {R Q : Type 0} (n : ℕ) (c : Counted R) (f : R → Counted Q) → limited n (then c f) ≡ andThen (limited n c) (λ r m. limited m (f r))
+limited-then : {R Q : Type 0} (n : ℕ) (c : Counted R) (f : R → Counted Q) → limited n (then c f) ≡ andThen (limited n c) (λ r m. limited m (f r))
 limited-then n c f =
     let q = f (c .result) in
     by-allowance (λ m. limited n (then c f) ≡ andThen m (λ r m. limited m (f r))) n c
@@ -83,7 +83,7 @@ pub then-have : {R Q : Type 0} (n m : ℕ) (c : Counted R) (f : R → Counted Q)
 then-have n m c f r q e h = rw (limited-then n c f, ← e) h
 
 -- ---- a search that always has a result, as one that might have none
-pub limited-some : {R : Type 0} (n : ℕ) (c : Counted R) → limited n (someOf c) ≡ allSome (limited n c)
+limited-some : {R : Type 0} (n : ℕ) (c : Counted R) → limited n (someOf c) ≡ allSome (limited n c)
 limited-some n c = limited-mapped (λ r. some r) n c
 
 pub some-spent : {R : Type 0} (n : ℕ) (c : Counted R) → spent ≡ limited n c → spent ≡ limited n (someOf c)
@@ -91,22 +91,6 @@ some-spent n c e = sym (limited-some n c ∙ ap allSome (sym e))
 
 pub some-have : {R : Type 0} (n m : ℕ) (c : Counted R) (r : R) → have r m ≡ limited n c → have (some r) m ≡ limited n (someOf c)
 some-have n m c r e = sym (limited-some n c ∙ ap allSome (sym e))
-
--- and back; none is never its result
-pub spent-of : {R : Type 0} (n : ℕ) (c : Counted R) → spent ≡ limited n (someOf c) → spent ≡ limited n c
-spent-of n c = by-allowance (λ m. spent ≡ m → spent ≡ limited n c) n (someOf c) (λ h e. never (cc)) (λ h e. sym (limited-over n c h))
-
-pub have-of : {R : Type 0} (n m : ℕ) (c : Counted R) (r : R) → have (some r) m ≡ limited n (someOf c) → have r m ≡ limited n c
-have-of n m c r =
-    by-allowance (λ q. have (some r) m ≡ q → have r m ≡ limited n c) n (someOf c)
-    (λ h e. let i : have r m ≡ have (c .result) (n - c .count) = cc in i ∙ sym (limited-enough n c h)) (λ h e. never (cc))
-
-pub never-none : {R : Type 0} (n m : ℕ) (c : Counted R) → have none m ≡ limited n (someOf c) → ⊥
-never-none n m c = by-allowance (λ q. have none m ≡ q → ⊥) n (someOf c) (λ h e. never (cc)) (λ h e. never (cc))
-
-pub then-some : {R Q : Type 0} (n m : ℕ) (c : Counted R) (f : R → Counted Q) (r : R) (q : Metered (Option Q))
-    → have r m ≡ limited n c → q ≡ limited m (someOf (f r)) → q ≡ limited n (someOf (then c f))
-then-some n m c f r q e h = h ∙ limited-some m (f r) ∙ ap allSome (then-have n m c f r (limited m (f r)) e refl) ∙ sym (limited-some n (then c f))
 
 -- ---- what one evaluation tells its caller: the value, and that one fewer is left; or that the allowance was 0
 
@@ -191,7 +175,7 @@ carried h = record { same = refl; ends = h }
 
 module _ {S R : Type 0} {l : Loop S R} {k : ℕ} {a : Metered R} {n : ℕ} where
   -- where none is left the caller gets nothing
-  pub carried-none : {s : S} → Carried l k a n (go s) → n ≡ zero → a ≡ spent
+  carried-none : {s : S} → Carried l k a n (go s) → n ≡ zero → a ≡ spent
   carried-none {s} i e = i .same ∙ rw (e, iterate-step l k s (i .ends)) (limited-none (iterate l k (step l s)))
 
   -- it is kept by an iteration, after which one fewer is left
@@ -200,11 +184,6 @@ module _ {S R : Type 0} {l : Loop S R} {k : ℕ} {a : Metered R} {n : ℕ} where
     same = i .same ∙ rw (e, iterate-step l k s (i .ends), d) (limited-tick m (iterate l k x));
     ends = subst (Ends l k) d (ends-step l k s (i .ends));
   }
-
-  -- these two by what an evaluation's contract says, which gives a density too
-  pub carried-turn : {s : S} {m : ℕ} {x : Next S R} {v d : Float} (q : Float) → Carried l k a n (go s)
-      → have (sample v d) m ≡ limited n (tick (atOnce (sample (l .ask (l .point s)) q))) → l .advance s v ≡ x → Carried l k a m x
-  carried-turn {s} q i e h = let o = value-of e in carried-on i (o .1) (ap (l .advance s) (cc) ∙ h)
 
   pub carried-spent : {s : S} (w : Sample) → Carried l k a n (go s) → spent ≡ limited n (tick (atOnce w)) → spent ≡ a
   carried-spent w i e = sym (carried-none i (none-of w e))
@@ -226,16 +205,6 @@ module _ {S R : Type 0} {l : Loop S R} {k : ℕ} {a : Metered R} {n : ℕ} where
 
   pub left-on : {s : S} {j m : ℕ} {x : Next S R} → Left l k a n (go s) → k ≡ suc j → n ≡ suc m → step l s ≡ x → Left l j a m x
   left-on {s} {j} {m} {x} i f e d = record { same = i .same ∙ rw (e, f, iterate-suc l j s, d) (limited-tick m (iterate l j x)) }
-
-  -- by what an evaluation's contract says, which gives a density too
-  pub left-turn : {s : S} {j m : ℕ} {x : Next S R} {v d : Float} (q : Float) (g : Float → Next S R) → Left l k a n (go s) → k ≡ suc j
-      → have (sample v d) m ≡ limited n (tick (atOnce (sample (l .ask (l .point s)) q))) → l .advance s v ≡ g q → g d ≡ x → Left l j a m x
-  left-turn {s} q g i f e c h =
-      let o = value-of e in
-      left-on i f (o .1) (ap (l .advance s) (cc) ∙ c ∙ ap g (cc) ∙ h)
-
-  pub left-spent : {s : S} (j : ℕ) (w : Sample) → Left l k a n (go s) → k ≡ suc j → spent ≡ limited n (tick (atOnce w)) → spent ≡ a
-  left-spent j w i f e = sym (left-none j i f (none-of w e))
 
   pub left-at : {x y : Next S R} → Left l k a n x → x ≡ y → Left l k a n y
   left-at i e = subst (Left l k a n) e i

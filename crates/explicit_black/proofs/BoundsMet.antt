@@ -1,5 +1,5 @@
--- Both bounds of the open loops are met: where every comparison with the probability fails, from the smallest value up and from the largest down. The probability is
--- NaN here, which no search passes in, so that no curve has to be computed. Assumes nothing.
+-- Neither the 2,098 doublings nor the 2,045 halvings can be fewer: both are met where every comparison with the probability fails, from the
+-- smallest value up and from the largest down. The probability is NaN here, so that no curve has to be computed; no search passes in NaN. Assumes nothing.
 use mathlib.Core.Path.{_≡_, refl}
 use lib.Ieee.{Float, nan, mul, lt, le, eq, ofBits}
 use Rattle.arithmetic.specs.Operations.{bits, maxFinite}

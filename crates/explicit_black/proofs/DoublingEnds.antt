@@ -1,4 +1,4 @@
--- From a value above 0 the largest finite value is reached within 2,098 doublings, on both paths. Assumes nothing.
+-- From a value above 0 the largest finite value is reached within 2,098 doublings, for the distribution and for the survival. Assumes nothing.
 use mathlib.Core.Path.{_≡_, refl, sym, subst, ap, _∙_}
 use mathlib.Core.Logic.{_⊎_, inl, inr}
 use Prim.Native.Nat.{ℕ, zero, suc, _*_, _^_, _≤_, _<_}
@@ -12,8 +12,9 @@ use lib.Ieee.Scale.{finite}
 use lib.Ieee.Positive.{positive, positive-finite}
 use Rattle.arithmetic.specs.Operations.{_⊗_, two, maxFinite}
 use Rattle.arithmetic.specs.Basic.{takesFirst, min}
+use Rattle.arithmetic.specs.Laws.Choices.{by-test, never}
 use Rattle.explicit_black.specs.declared.bracket.Bracket.{Bracket}
-use Rattle.explicit_black.specs.Loops.{Next, go, stop, Loop, step, Ends}
+use Rattle.explicit_black.specs.Loops.{go, Loop, step, Ends}
 use Rattle.explicit_black.specs.Curves.{finitePositive, inverseGaussianCdf, inverseGaussianSurvival}
 use Rattle.explicit_black.specs.Bracket.{doubled, doubledFrom, widened, doublingLoop, doublings}
 use Rattle.explicit_black.specs.Survival.{cappedFrom, survivalWidened, survivalDoublingLoop}
@@ -21,17 +22,18 @@ use Rattle.explicit_black.specs.Laws.Counted.{ends-stop, ends-go}
 use Rattle.explicit_black.specs.Laws.Roots.{finitePositive-positive}
 use Rattle.explicit_black.proofs.Units.{Units, units, under, twice}
 
--- ---- one doubling of either path is the largest value, or exactly twice x
-abbrev pub Grows : (Float → Float) → Type 0
+-- ---- one doubling gives the largest value, or exactly twice x
+abbrev Grows : (Float → Float) → Type 0
 Grows f = (n : ℕ) (x : Float) → 0 < n → Units n x → (f x ≡ maxFinite) ⊎ Units (n * 2) (f x)
 
-pub doubled-grows : Grows doubled
+doubled-grows : Grows doubled
 unfolding doubled
 doubled-grows n x N u = elim (twice n x u N) [
   | inl e ↦ inl (rw e)
   | inr d ↦ inr (rw (is-true (finite (x ⊗ two)) (positive-finite (x ⊗ two) (d .above))) d)
 ]
 
+-- the upper bound of `cappedFrom`
 abbrev capped : Float → Float
 capped x = min (x ⊗ two) maxFinite
 
@@ -50,7 +52,7 @@ min-one x y = go (isNan x) (isNan y) (takesFirst x y)
     go false false true = inl refl
     go false false false = inr refl
 
-pub capped-grows : Grows capped
+capped-grows : Grows capped
 capped-grows n x N u = elim (twice n x u N) [
   | inl e ↦ inl (rw e min-inf)
   | inr d ↦ elim (min-one (x ⊗ two) maxFinite) [
@@ -60,7 +62,7 @@ capped-grows n x N u = elim (twice n x u N) [
 ]
 
 -- ---- a loop that doubles its upper bound by f, and stops where that is the largest value
-abbrev pub Doubler : {R : Type 0} → (Float → Float) → Loop Bracket R → Type 0
+abbrev Doubler : {R : Type 0} → (Float → Float) → Loop Bracket R → Type 0
 Doubler f l = (k : ℕ) (x : Float)
     → (eq (f x) maxFinite ≡ false → Ends l k (go (record { lower = f x; upper = f (f x) })))
     → Ends l k (step l (record { lower = x; upper = f x }))
@@ -76,35 +78,37 @@ module _ {R : Type 0} (f : Float → Float) (g : Grows f) (l : Loop Bracket R) (
   reach-ends (suc k) n x N u r =
       ends-go l k (record { lower = x; upper = f x }) (d k x (λ e. elim (g n x N u) [
         | inl q ↦ absurd (largest-eq (f x) q e)
-        | inr w ↦ reach-ends k (n * 2) (f x) (mul-pos N (pow-pos 1)) w (le-trans r (le-of-eq (ap (λ (z : ℕ). n * z) (pow-suc 2 k ∙ mul-comm (2 ^ k) 2) ∙ sym (mul-assoc n 2 (2 ^ k)))))
+        | inr w ↦
+            let same : n * 2 ^ suc k ≡ n * 2 * 2 ^ k = ap (λ (z : ℕ). n * z) (pow-suc 2 k ∙ mul-comm (2 ^ k) 2) ∙ sym (mul-assoc n 2 (2 ^ k)) in
+            reach-ends k (n * 2) (f x) (mul-pos N (pow-pos 1)) w (le-trans r (le-of-eq same))
       ]))
 
-  pub doubler-ends : (x : Float) → T (positive x) → fits binary64 x ≡ true → Ends l doublings (go (record { lower = x; upper = f x }))
+  doubler-ends : (x : Float) → T (positive x) → fits binary64 x ≡ true → Ends l doublings (go (record { lower = x; upper = f x }))
   unfolding doublings
   doubler-ends x h e =
       let (n, N, u) = units x h (subst T (sym e) tt) in
       reach-ends 2098 n x N u (le-trans (le-of-eq (sym (one-mul (2 ^ 2098)))) (mul-le-mul-right (2 ^ 2098) N))
 
--- ---- the two loops
-pub either : {S R : Type 0} (l : Loop S R) (k : ℕ) (b : Bool) (r : R) (n : Next S R) → (b ≡ false → Ends l k n) → Ends l k (cond b (stop r) n)
-either l k true r n h = ends-stop l k r
-either l k false r n h = h refl
+-- ---- the loops of the two searches
 
 second : (a b : Bool) → (a || b) ≡ false → b ≡ false
-second true b e = absurd (true≢false e)
+second true b e = never (cc)
 second false b e = e
 
 cdf-doubler : (mu p : Float) → Doubler doubled (doublingLoop mu p)
 unfolding widened doubledFrom
 cdf-doubler mu p k x h =
-    either (doublingLoop mu p) k (le p (inverseGaussianCdf (doubled x) mu) || eq (doubled x) maxFinite) _ _
-    (λ e. h (second (le p (inverseGaussianCdf (doubled x) mu)) (eq (doubled x) maxFinite) e))
+    let l = doublingLoop mu p in
+    let reached = le p (inverseGaussianCdf (doubled x) mu) in
+    let largest = eq (doubled x) maxFinite in
+    by-test (Ends l k) (reached || largest) (λ e. ends-stop l k _) (λ e. h (second reached largest e))
 
 survival-doubler : (mu p : Float) → Doubler capped (survivalDoublingLoop mu p)
 unfolding survivalWidened cappedFrom
 survival-doubler mu p k x h =
-    either (survivalDoublingLoop mu p) k (le (inverseGaussianSurvival (capped x) mu) p) _ _
-    (λ e. either (survivalDoublingLoop mu p) k (eq (capped x) maxFinite) _ _ h)
+    let l = survivalDoublingLoop mu p in
+    by-test (Ends l k) (le (inverseGaussianSurvival (capped x) mu) p) (λ e. ends-stop l k _)
+    (λ e. by-test (Ends l k) (eq (capped x) maxFinite) (λ d. ends-stop l k _) h)
 
 pub ends-below : (mu p x : Float) → finitePositive x ≡ true → fits binary64 x ≡ true → Ends (doublingLoop mu p) doublings (go (doubledFrom x))
 unfolding doubledFrom

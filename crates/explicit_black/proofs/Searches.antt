@@ -1,104 +1,102 @@
--- How the searches go on from one part to the next, whatever is allowed, and where they start. Assumes nothing.
-use mathlib.Core.Path.{_≡_, refl, sym, ap, subst, _∙_}
-use Prim.Native.Nat.{ℕ, zero, suc}
-use mathlib.Core.Bool.{Bool, true, false, cond, _&&_}
-use lib.Dec.{T}
+-- How a search goes on from one part to the next, whatever is allowed, and that it starts at a point that is finite and above 0. Assumes nothing.
+use mathlib.Core.Path.{_≡_, refl, sym, ap, _∙_}
+use Prim.Native.Nat.{ℕ, suc}
+use mathlib.Core.Bool.{Bool, true, false, _&&_}
 use lib.Ieee.{Float, neg, lt}
-use Rattle.arithmetic.specs.Operations.{_⊗_, plusZero}
+use Rattle.arithmetic.specs.Operations.{_⊗_, plusZero, one}
 use Rattle.arithmetic.specs.Ln.{ln}
+use Rattle.arithmetic.specs.Laws.Choices.{by-test, never}
 use Rattle.special_function.specs.NormalDistribution.{inverseNormCdf}
 use Rattle.explicit_black.specs.declared.bracket.Bracket.{Bracket}
-use Rattle.explicit_black.specs.Counted.{Option, some, none, Counted, Sample, sample, atOnce, tick, then, someOf, orElse, Metered, have, spent, mapped, allSome, limited}
-use Rattle.explicit_black.specs.Loops.{Next, go, stop}
-use Rattle.explicit_black.specs.Curves.{finitePositive, inverseGaussianCdf, inverseGaussianPdf, inverseGaussianSurvival, inverseGaussianQuantileInitialGuess, inverseGaussianQuantileInitialGuessFromZ, startingPoint}
-use Rattle.explicit_black.specs.Newton.{newtonLoop, last, initialX, first, later, steps, numerator, nrstep, inverseGaussianCdfStandardized, inverseGaussianQuantileActuar}
-use Rattle.explicit_black.specs.Quantile.{bracketAt, clamped, iteration, iterationLoop, iterations, inverseGaussianQuantileBracketed, solvable, filtered, inverseGaussianQuantile}
-use Rattle.explicit_black.specs.Survival.{survivalBracketAt, survivalIteration, survivalIterationLoop, survivalIterations, survivalIterationsIn, survivalSearch, inverseGaussianQuantileFromSurvival}
-use Rattle.explicit_black.specs.Laws.Counted.{Left, left-turn, left-stop, left-out, andThen, limited-now, limited-none, limited-tick, limited-then, limited-some, then-spent, then-have, then-some, some-spent, spent-of, have-of, value-of, none-of}
+use Rattle.explicit_black.specs.Counted.{Option, some, none, Counted, Sample, atOnce, tick, then, someOf, orElse}
+use Rattle.explicit_black.specs.Counted.{Metered, have, spent, mapped, limited}
+use Rattle.explicit_black.specs.Loops.{Next}
+use Rattle.explicit_black.specs.Curves.{finitePositive, inverseGaussianCdf, inverseGaussianPdf, inverseGaussianSurvival}
+use Rattle.explicit_black.specs.Curves.{inverseGaussianQuantileInitialGuess, inverseGaussianQuantileInitialGuessFromZ, startingPoint}
+use Rattle.explicit_black.specs.Newton.{initialX, first, steps, numerator, nrstep}
+use Rattle.explicit_black.specs.Newton.{inverseGaussianCdfStandardized, inverseGaussianQuantileActuar}
+use Rattle.explicit_black.specs.Quantile.{bracketAt, clamped, iterations, inverseGaussianQuantileBracketed}
+use Rattle.explicit_black.specs.Quantile.{solvable, filtered, inverseGaussianQuantile}
+use Rattle.explicit_black.specs.Survival.{survivalBracketAt, survivalIterations, survivalIterationsIn, survivalSearch}
+use Rattle.explicit_black.specs.Survival.{inverseGaussianQuantileFromSurvival}
+use Rattle.explicit_black.specs.Laws.Counted.{limited-now, limited-none, limited-tick, then-spent, then-have, none-of}
+use Rattle.explicit_black.proofs.Turns.{Told}
 
--- ---- the starting point is finite and above 0
+-- ---- the starting point
 
 pub start-finite-positive : (guess mu x : Float) → finitePositive mu ≡ true → x ≡ startingPoint guess mu → finitePositive x ≡ true
 unfolding startingPoint
-start-finite-positive guess mu x h e = ap finitePositive e ∙ pick (finitePositive guess) refl
-  where
-    pick : (b : Bool) → finitePositive guess ≡ b → finitePositive (cond b guess mu) ≡ true
-    pick true e = e
-    pick false e = h
+start-finite-positive guess mu x h e = rw e (by-test (λ y. finitePositive y ≡ true) (finitePositive guess) (λ g. g) (λ g. h))
 
 pub solvable-finite-positive : (p mu : Float) → solvable p mu ≡ true → finitePositive mu ≡ true
-solvable-finite-positive p mu e = third (lt plusZero p) (lt p _) (finitePositive mu) e
+solvable-finite-positive p mu e = second (lt p one) (finitePositive mu) (second (lt plusZero p) _ e)
   where
-    third : (a b c : Bool) → (a && (b && c)) ≡ true → c ≡ true
-    third true true c e = e
-    third true false c e = absurd (subst T (sym e) tt)
-    third false b c e = absurd (subst T (sym e) tt)
+    second : (a b : Bool) → (a && b) ≡ true → b ≡ true
+    second true b e = e
+    second false b e = never (cc)
 
-pub left-last : (p lp mu : Float) {k : ℕ} {a : Metered (Option Float)} {n : ℕ} (x : Next (Float × Float) (Option Float)) → Left (newtonLoop p lp mu) k a n x → k ≡ zero → have (last mu x) n ≡ a
-left-last p lp mu (go s) i e = sym (left-out i e)
-left-last p lp mu (stop t) i e = sym (left-stop i)
+-- ---- one evaluation, and then the rest of a search
 
--- ---- one turn of a loop that uses the density, from the contracts of an evaluation and of what is made of it
+no-value : {R : Type 0} (n : ℕ) (c : Counted R) (w : Sample) → spent ≡ limited n (tick (atOnce w)) → spent ≡ limited n (tick c)
+no-value n c w e = rw (none-of w e) (sym (limited-none c))
 
-module _ {k j n m : ℕ} {v d : Float} where
-  pub step-turn : (p lp mu x direction w : Float) (t : Option Float) {a : Metered (Option Float)} {y : Next (Float × Float) (Option Float)} → Left (newtonLoop p lp mu) k a n (go (x, direction)) → k ≡ suc j
-      → have (sample v d) m ≡ limited n (tick (atOnce (sample (inverseGaussianCdfStandardized x mu) (inverseGaussianPdf (x ⊗ mu) mu))))
-      → w ≡ numerator v p lp → t ≡ nrstep (mu ⊗ d) w → y ≡ later mu x direction t → Left (newtonLoop p lp mu) j a m y
-  step-turn p lp mu x direction w t i f e g h q =
-      left-turn _ (λ pdf. later mu x direction (nrstep (mu ⊗ pdf) (numerator v p lp))) i f e refl (rw (← g, ← h) (sym q))
+after-value : {R : Type 0} {n m : ℕ} (c : Counted R) {q : Metered R} → n ≡ suc m → q ≡ limited m c → q ≡ limited n (tick c)
+after-value {m = m} c f h = rw f (h ∙ sym (limited-tick m c))
 
-  pub iteration-turn : (mu p : Float) (b : Bracket) (x : Float) {a : Metered Float} {y r : Next (Bracket × Float) Float} → Left (iterationLoop mu p) k a n (go (b, x)) → k ≡ suc j
-      → have (sample v d) m ≡ limited n (tick (atOnce (sample (inverseGaussianCdf x mu) (inverseGaussianPdf x mu)))) → r ≡ iteration d p (b, x) v → r ≡ y → Left (iterationLoop mu p) j a m y
-  iteration-turn mu p b x i f e g h = left-turn _ (λ pdf. iteration pdf p (b, x) v) i f e refl (sym g ∙ h)
+-- ---- `inverse_gaussian_quantile_actuar`: the first step, and the steps after it
 
-  pub survival-iteration-turn : (mu p : Float) (b : Bracket) (x : Float) {a : Metered Float} {y r : Next (Bracket × Float) Float} → Left (survivalIterationLoop mu p) k a n (go (b, x)) → k ≡ suc j
-      → have (sample v d) m ≡ limited n (tick (atOnce (sample (inverseGaussianSurvival x mu) (inverseGaussianPdf x mu)))) → {q : Float} → q ≡ d → r ≡ survivalIteration q p (b, x) v → r ≡ y
-      → Left (survivalIterationLoop mu p) j a m y
-  survival-iteration-turn mu p b x i f e o g h = left-turn _ (λ pdf. survivalIteration pdf p (b, x) v) i f e refl (rw (← o) (sym g ∙ h))
+module _ (p mu : Float) where
+  pub no-step : (n : ℕ) (w : Sample) → spent ≡ limited n (tick (atOnce w)) → spent ≡ limited n (inverseGaussianQuantileActuar p mu)
+  unfolding inverseGaussianQuantileActuar
+  no-step n w e = no-value n _ w e
 
--- ---- `inverse_gaussian_quantile_actuar`
+  pub from-step : {lp x v d error : Float} {n m : ℕ} {t : Option Float} {s : Next (Float × Float) (Option Float)} {q : Metered (Option Float)}
+      → lp ≡ ln p → x ≡ initialX p lp mu → Told (inverseGaussianCdfStandardized x mu) (inverseGaussianPdf (x ⊗ mu) mu) n v d m
+      → error ≡ numerator v p lp → t ≡ nrstep (mu ⊗ d) error → s ≡ first mu x t → q ≡ limited m (steps p lp mu s)
+      → q ≡ limited n (inverseGaussianQuantileActuar p mu)
+  unfolding inverseGaussianQuantileActuar
+  from-step {lp} {s = s} l e o f k g h =
+      rw (← l, ← e, o .value, o .density, ← f, ← k, ← g) (after-value (steps p lp mu s) (o .one-fewer) h)
 
-pub no-step : (p mu : Float) (w : Sample) (n : ℕ) → spent ≡ limited n (tick (atOnce w)) → spent ≡ limited n (inverseGaussianQuantileActuar p mu)
-unfolding inverseGaussianQuantileActuar
-no-step p mu w n e = rw (none-of w e) (sym (limited-none _))
+-- ---- a bracket, and the iterations in it: no root where there is no bracket
 
-pub from-step : (p lp mu x : Float) (n m : ℕ) (v d w : Float) (t : Option Float) (s : Next (Float × Float) (Option Float)) (q : Metered (Option Float)) → lp ≡ ln p → x ≡ initialX p lp mu
-    → have (sample v d) m ≡ limited n (tick (atOnce (sample (inverseGaussianCdfStandardized x mu) (inverseGaussianPdf (x ⊗ mu) mu)))) → w ≡ numerator v p lp → t ≡ nrstep (mu ⊗ d) w → s ≡ first mu x t
-    → q ≡ limited m (steps p lp mu s) → q ≡ limited n (inverseGaussianQuantileActuar p mu)
-unfolding inverseGaussianQuantileActuar
-from-step p lp mu x n m v d w t s q l e f u k g h =
-    let o = value-of f in
-    let a : inverseGaussianCdfStandardized x mu ≡ v = cc in
-    let b : inverseGaussianPdf (x ⊗ mu) mu ≡ d = cc in
-    rw (← l, ← e, a, b, o .1, ← u, ← k, ← g) (h ∙ sym (limited-tick m (steps p lp mu s)))
+abbrev rootIn : (Bracket → Counted Float) → Option Bracket → Counted (Option Float)
+rootIn f (some b) = someOf (f b)
+rootIn f none = atOnce none
+
+unfoldable pub inBracket : Counted (Option Bracket) → (Bracket → Counted Float) → Counted (Option Float)
+inBracket c f = then c (rootIn f)
+
+module _ (n : ℕ) (c : Counted (Option Bracket)) (f : Bracket → Counted Float) where
+  pub no-bracket : spent ≡ limited n c → spent ≡ limited n (inBracket c f)
+  unfolding inBracket
+  no-bracket e = then-spent n c (rootIn f) e
+
+  pub nowhere : {m : ℕ} → have none m ≡ limited n c → have none m ≡ limited n (inBracket c f)
+  unfolding inBracket
+  nowhere {m} e = then-have n m c (rootIn f) none _ e (sym (limited-now m none))
+
+  pub in-bracket : {m : ℕ} {b : Bracket} {q : Metered (Option Float)}
+      → have (some b) m ≡ limited n c → q ≡ limited m (someOf (f b)) → q ≡ limited n (inBracket c f)
+  unfolding inBracket
+  in-bracket {m} {b} {q} e h = then-have n m c (rootIn f) (some b) q e h
 
 -- ---- `inverse_gaussian_quantile_bracketed`
 
 module _ (p mu : Float) where
-  -- the bracket and the rounds, from the value v at x
-  abbrev searchFrom : Float → Float → Counted Float
-  searchFrom x v = then (bracketAt x v mu p) (λ b. iterations mu p b (clamped b x))
-
-  pub no-guess : (w : Sample) (n : ℕ) → spent ≡ limited n (tick (atOnce w)) → spent ≡ limited n (someOf (inverseGaussianQuantileBracketed p mu))
+  pub no-guess : (n : ℕ) (w : Sample) → spent ≡ limited n (tick (atOnce w)) → spent ≡ limited n (someOf (inverseGaussianQuantileBracketed p mu))
   unfolding inverseGaussianQuantileBracketed
-  no-guess w n e = some-spent n _ (rw (none-of w e) (sym (limited-none _)))
+  no-guess n w e = no-value n _ w e
 
-  pub from-guess : (g x : Float) (n m : ℕ) (v d : Float) (q : Metered (Option Float)) → g ≡ inverseGaussianQuantileInitialGuess p mu → x ≡ startingPoint g mu
-      → have (sample v d) m ≡ limited n (tick (atOnce (sample (inverseGaussianCdf x mu) (inverseGaussianPdf x mu))))
-      → q ≡ limited m (someOf (searchFrom x v)) → q ≡ limited n (someOf (inverseGaussianQuantileBracketed p mu))
-  unfolding inverseGaussianQuantileBracketed
-  from-guess g x n m v d q f s e h =
-      let o = value-of e in
-      let a : inverseGaussianCdf x mu ≡ v = cc in
-      rw (← f, ← s, a, o .1) (h ∙ sym (limited-tick m _))
+  -- the bracket on the side that v points to, and the iterations from x brought into it
+  abbrev pub bracketedFrom : Float → Float → Counted (Option Float)
+  bracketedFrom x v = inBracket (someOf (bracketAt x v mu p)) (λ b. iterations mu p b (clamped b x))
 
-  pub no-bracket : (x : Float) (n : ℕ) (v : Float) → spent ≡ limited n (someOf (bracketAt x v mu p)) → spent ≡ limited n (someOf (searchFrom x v))
-  no-bracket x n v e = some-spent n _ (then-spent n _ (λ b. iterations mu p b (clamped b x)) (spent-of n _ e))
-
-  pub from-bracket : (x : Float) (n m : ℕ) (v : Float) (b : Bracket) (y : Float) (q : Metered (Option Float)) → have (some b) m ≡ limited n (someOf (bracketAt x v mu p)) → y ≡ clamped b x
-      → q ≡ limited m (someOf (iterations mu p b y)) → q ≡ limited n (someOf (searchFrom x v))
-  from-bracket x n m v b y q e d h =
-      then-some n m (bracketAt x v mu p) (λ b. iterations mu p b (clamped b x)) b q (have-of n m _ b e) (h ∙ ap (λ (y : Float). limited m (someOf (iterations mu p b y))) d)
+  pub from-guess : {g x v d : Float} {n m : ℕ} {q : Metered (Option Float)}
+      → g ≡ inverseGaussianQuantileInitialGuess p mu → x ≡ startingPoint g mu → Told (inverseGaussianCdf x mu) (inverseGaussianPdf x mu) n v d m
+      → q ≡ limited m (bracketedFrom x v) → q ≡ limited n (someOf (inverseGaussianQuantileBracketed p mu))
+  unfolding inverseGaussianQuantileBracketed inBracket
+  from-guess {x = x} {v = v} f s o h = rw (← f, ← s, o .value) (after-value (bracketedFrom x v) (o .one-fewer) h)
 
 -- ---- `inverse_gaussian_quantile`
 
@@ -106,59 +104,67 @@ pub unsolvable : (p mu : Float) (n : ℕ) → solvable p mu ≡ false → have n
 unfolding inverseGaussianQuantile
 unsolvable p mu n e = rw e (sym (limited-now n none))
 
--- what the steps and the filter gave, t, and the bracketed search where that is none
-tried : (p mu : Float) (n : ℕ) (a : Metered (Option Float)) (t : Metered (Option Float)) → solvable p mu ≡ true → a ≡ limited n (inverseGaussianQuantileActuar p mu) → t ≡ mapped filtered a
-    → limited n (inverseGaussianQuantile p mu) ≡ allSome (andThen t (λ t m. limited m (orElse t (inverseGaussianQuantileBracketed p mu))))
-unfolding inverseGaussianQuantile
-tried p mu n a t s e f =
-    let c = inverseGaussianQuantileActuar p mu in
-    let b = inverseGaussianQuantileBracketed p mu in
-    rw (s, limited-some n (then c (λ t. orElse (filtered t) b)), limited-then n c (λ t. orElse (filtered t) b), ← e, f) (sym (split a))
-  where
-    split : (a : Metered (Option Float)) → allSome (andThen (mapped filtered a) (λ t m. limited m (orElse t (inverseGaussianQuantileBracketed p mu))))
-        ≡ allSome (andThen a (λ t m. limited m (orElse (filtered t) (inverseGaussianQuantileBracketed p mu))))
-    split (have t m) = refl
-    split spent = refl
-
+-- a is what the Newton steps gave, and the filter leaves of its root, if anything
 module _ (p mu : Float) (n : ℕ) (a : Metered (Option Float)) (s : solvable p mu ≡ true) (e : a ≡ limited n (inverseGaussianQuantileActuar p mu)) where
-  pub kept : (x : Float) (m : ℕ) → have (some x) m ≡ mapped filtered a → have (some x) m ≡ limited n (inverseGaussianQuantile p mu)
-  unfolding orElse
-  kept x m f = sym (tried p mu n a (have (some x) m) s e f ∙ ap allSome (limited-now m x))
+  abbrev orBracketed : Option Float → Counted (Option Float)
+  orBracketed t = someOf (orElse t (inverseGaussianQuantileBracketed p mu))
 
-  pub spent-steps : spent ≡ mapped filtered a → spent ≡ limited n (inverseGaussianQuantile p mu)
-  spent-steps f = sym (tried p mu n a spent s e f)
+  after-filter : (t : Option Float) (m : ℕ) (q : Metered (Option Float)) → have t m ≡ mapped filtered a → q ≡ limited m (orBracketed t)
+      → q ≡ limited n (inverseGaussianQuantile p mu)
+  unfolding inverseGaussianQuantile
+  after-filter t m q f h = split a e f
+    where
+      split : (a : Metered (Option Float)) → a ≡ limited n (inverseGaussianQuantileActuar p mu) → have t m ≡ mapped filtered a
+          → q ≡ limited n (inverseGaussianQuantile p mu)
+      split (have r k) e f =
+          let same : filtered r ≡ t = cc in
+          let left : k ≡ m = cc in
+          rw s (then-have n k (inverseGaussianQuantileActuar p mu) (λ r. orBracketed (filtered r)) r q e (rw (same, left) h))
+      split spent e f = never (cc)
 
-  pub searched : (m : ℕ) (q : Metered (Option Float)) → have none m ≡ mapped filtered a → q ≡ limited m (someOf (inverseGaussianQuantileBracketed p mu)) → q ≡ limited n (inverseGaussianQuantile p mu)
+  pub newton-root : {x : Float} {m : ℕ} → have (some x) m ≡ mapped filtered a → have (some x) m ≡ limited n (inverseGaussianQuantile p mu)
   unfolding orElse
-  searched m q f g = g ∙ limited-some m _ ∙ sym (tried p mu n a (have none m) s e f)
+  newton-root {x} {m} f = after-filter (some x) m _ f (sym (limited-now m (some x)))
+
+  pub newton-none : {m : ℕ} {q : Metered (Option Float)}
+      → have none m ≡ mapped filtered a → q ≡ limited m (someOf (inverseGaussianQuantileBracketed p mu)) → q ≡ limited n (inverseGaussianQuantile p mu)
+  unfolding orElse
+  newton-none {m} {q} f g = after-filter none m q f g
+
+  pub newton-spent : spent ≡ mapped filtered a → spent ≡ limited n (inverseGaussianQuantile p mu)
+  unfolding inverseGaussianQuantile
+  newton-spent f = split a e f
+    where
+      split : (a : Metered (Option Float)) → a ≡ limited n (inverseGaussianQuantileActuar p mu) → spent ≡ mapped filtered a
+          → spent ≡ limited n (inverseGaussianQuantile p mu)
+      split (have r k) e f = never (cc)
+      split spent e f = rw s (then-spent n (inverseGaussianQuantileActuar p mu) (λ r. orBracketed (filtered r)) e)
 
 -- ---- `inverse_gaussian_quantile_from_survival`
 
-pub survival-unsolvable : (p mu : Float) (n : ℕ) → solvable p mu ≡ false → have none n ≡ limited n (inverseGaussianQuantileFromSurvival p mu)
-unfolding inverseGaussianQuantileFromSurvival
-survival-unsolvable p mu n e = rw e (sym (limited-now n none))
+module _ (p mu : Float) where
+  pub survival-unsolvable : (n : ℕ) → solvable p mu ≡ false → have none n ≡ limited n (inverseGaussianQuantileFromSurvival p mu)
+  unfolding inverseGaussianQuantileFromSurvival
+  survival-unsolvable n e = rw e (sym (limited-now n none))
 
-pub survival-no-guess : (p mu : Float) (w : Sample) (n : ℕ) → solvable p mu ≡ true → spent ≡ limited n (tick (atOnce w)) → spent ≡ limited n (inverseGaussianQuantileFromSurvival p mu)
-unfolding inverseGaussianQuantileFromSurvival survivalSearch
-survival-no-guess p mu w n s e = rw (s, none-of w e) (sym (limited-none _))
+  pub survival-no-guess : (n : ℕ) (w : Sample)
+      → solvable p mu ≡ true → spent ≡ limited n (tick (atOnce w)) → spent ≡ limited n (inverseGaussianQuantileFromSurvival p mu)
+  unfolding inverseGaussianQuantileFromSurvival survivalSearch
+  survival-no-guess n w s e = rw s (no-value n _ w e)
 
-pub survival-from-guess : (p mu z g x : Float) (n m : ℕ) (v d : Float) (q : Metered (Option Float)) → solvable p mu ≡ true → z ≡ inverseNormCdf p → g ≡ inverseGaussianQuantileInitialGuessFromZ (neg z) mu
-    → x ≡ startingPoint g mu → have (sample v d) m ≡ limited n (tick (atOnce (sample (inverseGaussianSurvival x mu) (inverseGaussianPdf x mu))))
-    → q ≡ limited m (then (survivalBracketAt x v mu p) (survivalIterationsIn mu p x)) → q ≡ limited n (inverseGaussianQuantileFromSurvival p mu)
-unfolding inverseGaussianQuantileFromSurvival survivalSearch
-survival-from-guess p mu z g x n m v d q s y f t e h =
-    let o = value-of e in
-    let a : inverseGaussianSurvival x mu ≡ v = cc in
-    rw (s, ← y, ← f, ← t, a, o .1) (h ∙ sym (limited-tick m _))
+  -- the bracket on the side that v points to, and the iterations from x
+  abbrev pub survivalFrom : Float → Float → Counted (Option Float)
+  survivalFrom x v = inBracket (survivalBracketAt x v mu p) (λ b. survivalIterations mu p b x)
 
-pub survival-no-bracket : (p mu x : Float) (n : ℕ) (v : Float) → spent ≡ limited n (survivalBracketAt x v mu p) → spent ≡ limited n (then (survivalBracketAt x v mu p) (survivalIterationsIn mu p x))
-survival-no-bracket p mu x n v e = then-spent n _ (survivalIterationsIn mu p x) e
+  in-iterations : (x : Float) (t : Option Bracket) → survivalIterationsIn mu p x t ≡ rootIn (λ b. survivalIterations mu p b x) t
+  unfolding survivalIterationsIn
+  in-iterations x (some b) = refl
+  in-iterations x none = refl
 
-pub survival-nowhere : (p mu x : Float) (n m : ℕ) (v : Float) → have none m ≡ limited n (survivalBracketAt x v mu p) → have none m ≡ limited n (then (survivalBracketAt x v mu p) (survivalIterationsIn mu p x))
-unfolding survivalIterationsIn
-survival-nowhere p mu x n m v e = then-have n m _ (survivalIterationsIn mu p x) none _ e (sym (limited-now m none))
-
-pub survival-from-bracket : (p mu x : Float) (n m : ℕ) (v : Float) (b : Bracket) (q : Metered (Option Float)) → have (some b) m ≡ limited n (survivalBracketAt x v mu p)
-    → q ≡ limited m (someOf (survivalIterations mu p b x)) → q ≡ limited n (then (survivalBracketAt x v mu p) (survivalIterationsIn mu p x))
-unfolding survivalIterationsIn
-survival-from-bracket p mu x n m v b q e h = then-have n m _ (survivalIterationsIn mu p x) (some b) q e h
+  pub survival-from-guess : {z g x v d : Float} {n m : ℕ} {q : Metered (Option Float)}
+      → solvable p mu ≡ true → z ≡ inverseNormCdf p → g ≡ inverseGaussianQuantileInitialGuessFromZ (neg z) mu → x ≡ startingPoint g mu
+      → Told (inverseGaussianSurvival x mu) (inverseGaussianPdf x mu) n v d m
+      → q ≡ limited m (survivalFrom x v) → q ≡ limited n (inverseGaussianQuantileFromSurvival p mu)
+  unfolding inverseGaussianQuantileFromSurvival survivalSearch inBracket
+  survival-from-guess {x = x} {v = v} s y f t o h =
+      rw (s, ← y, ← f, ← t, o .value, in-iterations x (survivalBracketAt x v mu p .result)) (after-value (survivalFrom x v) (o .one-fewer) h)

@@ -1,4 +1,5 @@
--- From the point where a search starts, each of its two open loops stops by itself, so that the definition is the source's path. Assumes nothing.
+-- From the point where a search starts, its doubling and its halving stop before their turns are used up, so that the definitions follow the source.
+-- Assumes nothing.
 use mathlib.Core.Path.{_≡_, refl, subst, sym}
 use mathlib.Core.Bool.{true}
 use lib.Dec.{T}
@@ -9,7 +10,7 @@ use Rattle.explicit_black.specs.Loops.{go, Ends}
 use Rattle.explicit_black.specs.Curves.{finitePositive, inverseGaussianQuantileInitialGuess, inverseGaussianQuantileInitialGuessFromZ, startingPoint}
 use Rattle.explicit_black.specs.Bracket.{doubledFrom, doublingLoop, doublings, halved, halvingLoop, halvings}
 use Rattle.explicit_black.specs.Survival.{cappedFrom, survivalDoublingLoop, survivalHalvingLoop}
-use Rattle.explicit_black.specs.Laws.Roots.{guess-held}
+use Rattle.explicit_black.specs.Laws.Roots.{guess-fits}
 use Rattle.explicit_black.proofs.DoublingEnds.{ends-below, survival-ends-below}
 use Rattle.explicit_black.proofs.HalvingEnds.{ends-above, survival-ends-above}
 use Rattle.explicit_black.proofs.Searches.{start-finite-positive}
@@ -23,24 +24,27 @@ survival-start p mu = startingPoint (inverseGaussianQuantileInitialGuessFromZ (n
 
 -- mu finite and above 0, and a value of binary64
 module _ (p mu : Float) (h : finitePositive mu ≡ true) (f : fits binary64 mu ≡ true) where
-  fit : fits binary64 (quantile-start p mu) ≡ true
+  quantile-fits : fits binary64 (quantile-start p mu) ≡ true
   unfolding inverseGaussianQuantileInitialGuess
-  fit = is-true _ (guess-held (inverseNormCdf p) mu (subst T (sym f) tt))
+  quantile-fits = is-true _ (guess-fits (inverseNormCdf p) mu (subst T (sym f) tt))
 
-  pub quantile-doubling-ends : Ends (doublingLoop mu p) doublings (go (doubledFrom (quantile-start p mu)))
-  quantile-doubling-ends = ends-below mu p (quantile-start p mu) (start-finite-positive (inverseGaussianQuantileInitialGuess p mu) mu (quantile-start p mu) h refl) fit
+  quantile-finite-positive : finitePositive (quantile-start p mu) ≡ true
+  quantile-finite-positive = start-finite-positive (inverseGaussianQuantileInitialGuess p mu) mu (quantile-start p mu) h refl
 
-  pub quantile-halving-ends : Ends (halvingLoop mu p) halvings (halved (quantile-start p mu) (quantile-start p mu))
-  quantile-halving-ends = ends-above mu p (quantile-start p mu) (start-finite-positive (inverseGaussianQuantileInitialGuess p mu) mu (quantile-start p mu) h refl) fit
+  quantile-doubling-ends : Ends (doublingLoop mu p) doublings (go (doubledFrom (quantile-start p mu)))
+  quantile-doubling-ends = ends-below mu p (quantile-start p mu) quantile-finite-positive quantile-fits
 
-  survival-fit : fits binary64 (survival-start p mu) ≡ true
-  survival-fit = is-true _ (guess-held (neg (inverseNormCdf p)) mu (subst T (sym f) tt))
+  quantile-halving-ends : Ends (halvingLoop mu p) halvings (halved (quantile-start p mu) (quantile-start p mu))
+  quantile-halving-ends = ends-above mu p (quantile-start p mu) quantile-finite-positive quantile-fits
+
+  survival-fits : fits binary64 (survival-start p mu) ≡ true
+  survival-fits = is-true _ (guess-fits (neg (inverseNormCdf p)) mu (subst T (sym f) tt))
 
   survival-finite-positive : finitePositive (survival-start p mu) ≡ true
   survival-finite-positive = start-finite-positive (inverseGaussianQuantileInitialGuessFromZ (neg (inverseNormCdf p)) mu) mu (survival-start p mu) h refl
 
-  pub survival-doubling-ends : Ends (survivalDoublingLoop mu p) doublings (go (cappedFrom (survival-start p mu)))
-  survival-doubling-ends = survival-ends-below mu p (survival-start p mu) survival-finite-positive survival-fit
+  survival-doubling-ends : Ends (survivalDoublingLoop mu p) doublings (go (cappedFrom (survival-start p mu)))
+  survival-doubling-ends = survival-ends-below mu p (survival-start p mu) survival-finite-positive survival-fits
 
-  pub survival-halving-ends : Ends (survivalHalvingLoop mu p) halvings (halved (survival-start p mu) (survival-start p mu))
-  survival-halving-ends = survival-ends-above mu p (survival-start p mu) survival-finite-positive survival-fit
+  survival-halving-ends : Ends (survivalHalvingLoop mu p) halvings (halved (survival-start p mu) (survival-start p mu))
+  survival-halving-ends = survival-ends-above mu p (survival-start p mu) survival-finite-positive survival-fits

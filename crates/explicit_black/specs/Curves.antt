@@ -1,4 +1,5 @@
--- The inverse Gaussian distribution of explicit_black.rs, and the points where its searches start. Definitions only.
+-- The curves of explicit_black.rs: the inverse Gaussian distribution with mean mu, its survival and its density (REQUIREMENTS 10.6), and the guess from
+-- which a search starts (10.7). Definitions only.
 use mathlib.Core.Bool.{Bool, cond, _&&_}
 use lib.Ieee.{Float, neg, lt, le}
 use Rattle.arithmetic.specs.Operations.{_⊕_, _⊖_, _⊗_, _⊘_, bits, plusZero, half, two, frac1Sqrt2}
@@ -10,32 +11,32 @@ use Rattle.special_function.specs.ErrorFunction.{erfcxCody}
 use Rattle.special_function.specs.NormalDistribution.{normPdf, normCdf, inverseNormCdf}
 use Rattle.bs_option_price.specs.BsOptionPrice.{normalisedBlack}
 
--- finite and above 0: the source writes the two tests in either order, and also denied
+-- finite and above 0, which REQUIREMENTS 1.3 calls proper; the source writes the two tests in either order, and also denied
 abbrev pub finitePositive : Float → Bool
 finitePositive x = isFinite x && lt plusZero x
 
--- `inverse_gaussian_survival`: the normalised Black price is this probability times exp(-1 / mu)
+-- `inverse_gaussian_survival`: the probability of the upper tail, which is a normalised Black price divided by its bound exp(-1 / mu)
 unfoldable pub inverseGaussianSurvival : Float → Float → Float
 inverseGaussianSurvival x mu =
     let sqrtX = sqrt x in
     normalisedBlack (neg (recip mu)) (neg sqrtX ⊘ mu) (recip sqrtX) ⊘ exp (neg (recip mu))
 
--- `inverse_gaussian_quantile_initial_guess_from_z`, with two fused products
+-- `inverse_gaussian_quantile_initial_guess_from_z`, with two fused multiply-adds
 unfoldable pub inverseGaussianQuantileInitialGuessFromZ : Float → Float → Float
 inverseGaussianQuantileInitialGuessFromZ z mu =
     let sqrtDiscriminant = sqrt (mulAdd mu (mu ⊗ z ⊗ z) (bits 0x4010_0000_0000_0000 ⊗ mu)) in  -- 4.0
     let sqrtX = cond (le plusZero z) (half ⊗ mulAdd mu z sqrtDiscriminant) (two ⊗ mu ⊘ (sqrtDiscriminant ⊖ mu ⊗ z)) in
     sqrtX ⊗ sqrtX
 
--- `inverse_gaussian_quantile_initial_guess`
+-- `inverse_gaussian_quantile_initial_guess`, from the probability of the lower tail
 unfoldable pub inverseGaussianQuantileInitialGuess : Float → Float → Float
 inverseGaussianQuantileInitialGuess probability mu = inverseGaussianQuantileInitialGuessFromZ (inverseNormCdf probability) mu
 
--- the guess, or mu where that is not finite and above 0
+-- where a search starts: the guess, or mu where the guess is not proper
 unfoldable pub startingPoint : Float → Float → Float
 startingPoint guess mu = cond (finitePositive guess) guess mu
 
--- `inverse_gaussian_cdf`
+-- `inverse_gaussian_cdf`: the probability of the lower tail
 unfoldable pub inverseGaussianCdf : Float → Float → Float
 inverseGaussianCdf x mu =
     let sqrtX = sqrt x in
@@ -45,7 +46,7 @@ inverseGaussianCdf x mu =
     let reflected = leading ⊕ invSqrtX in
     normCdf a ⊕ half ⊗ exp (neg half ⊗ a ⊗ a) ⊗ erfcxCody (reflected ⊗ frac1Sqrt2)
 
--- `inverse_gaussian_pdf`
+-- `inverse_gaussian_pdf`: the density
 unfoldable pub inverseGaussianPdf : Float → Float → Float
 inverseGaussianPdf x mu =
     let sqrtX = sqrt x in

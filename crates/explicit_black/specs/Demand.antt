@@ -1,7 +1,7 @@
--- The terms of demand 3: what is said of two quotes, and what of their replies is compared. Definitions only.
+-- The terms of demand 3 (REQUIREMENTS 2.3): what is asked of two quotes, and what of their replies is compared. Definitions only.
 use mathlib.Core.Path.{_≡_}
 use mathlib.Core.Logic.{_⊎_}
-use Prim.Native.Nat.{ℕ, suc, _*_, _^_, _≤_}
+use Prim.Native.Nat.{ℕ, suc, _*_, _^_}
 use lib.IntN.{ℤ, pos, negsuc}
 use lib.Dec.{T}
 use lib.Ieee.{Float, le, lt, eq}
@@ -13,7 +13,7 @@ use Rattle.arithmetic.specs.Magnitude.{NotOver}
 use Rattle.explicit_black.specs.Counted.{Counted}
 use Rattle.explicit_black.specs.Quote.{Outcome, total, refused, Reply, answer, refusal}
 
--- 4 ^ n as a fraction
+-- 4 ^ n as the fraction fourUp n / fourDown n
 abbrev pub fourUp : ℤ → ℕ
 fourUp (pos n) = 4 ^ n
 fourUp (negsuc n) = 1
@@ -29,14 +29,18 @@ pub record Exactly (n : ℤ) (x y : Float) : Type 0 where
   pub fraction : num y * den x * fourDown n ≡ num x * den y * fourUp n
   pub signs : (num x ≡ 0) ⊎ (isSignMinus y ≡ isSignMinus x)
 
--- a price that is finite and not negative, minus zero included; a forward and a strike that are finite and at least 2 ^ -1022, neither over 2 ^ 1022 times the other
-pub record ComparableFigures (price forward strike : Float) : Type 0 where
+-- a price that is finite and not negative, minus zero included; a forward and a strike that are finite and at least 2 ^ -1022
+pub record FiguresInRange (price forward strike : Float) : Type 0 where
   pub price-finite : T (finite price)
   pub price-not-negative : T (le plusZero price)
   pub forward-finite : T (finite forward)
   pub forward-normal : T (le minPositive forward)
   pub strike-finite : T (finite strike)
   pub strike-normal : T (le minPositive strike)
+
+-- such figures, neither of forward and strike over 2 ^ 1022 times the other
+pub record ComparableFigures (price forward strike : Float) : Type 0 where
+  pub in-range : FiguresInRange price forward strike
   pub forward-not-over : NotOver forward strike
   pub strike-not-over : NotOver strike forward
 
@@ -44,7 +48,7 @@ pub record ComparableFigures (price forward strike : Float) : Type 0 where
 abbrev pub ComparableTimes : Float → Float → Type 0
 ComparableTimes t t' = (T (eq t plusZero) × T (eq t' plusZero)) ⊎ (T (finite t) × T (lt plusZero t) × T (finite t') × T (lt plusZero t'))
 
--- what two replies are compared by: total volatility or refusal number, and count
+-- what two replies are compared by: total volatility or refusal number, and count, but not volatility, since the times may differ
 abbrev pub compared : Reply → Counted Outcome
 compared (answer v w count) = record { result = total v; count = count }
 compared (refusal number count) = record { result = refused number; count = count }

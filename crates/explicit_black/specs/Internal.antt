@@ -1,3 +1,4 @@
--- Definitions that only serve the code: what the contracts of its inner steps cite.
+-- Definitions that only serve the code: contracts of inner functions cite them, and no entry's contract rests on them, so nobody has to believe them.
 pub mod Searches
 pub mod Quote
+pub mod Contracts

@@ -1,4 +1,4 @@
--- The keystrokes that document 01 marks with K, all ten, as one fact about the definitions. Assumes nothing.
+-- The ten keystrokes of REQUIREMENTS 12.1, as one theorem about the definitions, proved by computing them. Assumes nothing.
 use mathlib.Core.Path.{_≡_, refl}
 use lib.Ieee.{Float, nan, add, sub, mul, div, lt, le, eq, isNan, ofBits}
 use Rattle.arithmetic.specs.Operations.{bits, plusZero, one, two, infinity}
@@ -43,14 +43,15 @@ pub record Keystrokes : Type 0 where
   pub max-of-nan : max nan plusZero ≡ plusZero
   -- the normalised price at t = 0
   pub black-at-zero : (x h : Float) → normalisedBlack x h plusZero ≡ plusZero
-  -- the quotes of the sheet, and one at time zero: side, price, forward, strike, time
+  -- the three quotes of the sheet in REQUIREMENTS 11.4, and one at time zero: side, price, forward, strike, time
   pub price-of-zero : impliedBlackVolatilityInput 0 plusZero hundred hundredTwenty one ≡ answer plusZero plusZero 0
   pub price-at-bound : impliedBlackVolatilityInput 0 hundred hundred hundredTwenty one ≡ answer infinity infinity 0
   pub price-below-intrinsic : impliedBlackVolatilityInput 1 five hundred hundredTwenty one ≡ refusal 7 0
   pub expired : impliedBlackVolatilityInput 0 twenty hundredTwenty hundred plusZero ≡ answer plusZero plusZero 0
 
 pub keystrokes : Keystrokes
-unfolding sqrt mulAdd trunc exp ln max normalisedBlack impliedBlackVolatilityInput fromQuote firstRefusal fromPrice fromTimeValue volatility add sub mul div lt le eq isNan ofBits
+unfolding sqrt mulAdd trunc exp ln max normalisedBlack impliedBlackVolatilityInput fromQuote firstRefusal fromPrice fromTimeValue volatility
+    add sub mul div lt le eq isNan ofBits
 keystrokes = record {
   root-of-four = refl;
   root-of-least = refl;

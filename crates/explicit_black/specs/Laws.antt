@@ -1,4 +1,4 @@
--- Facts about the definitions, which the proofs here and the crates above cite.
+-- Facts about the definitions, each proved: the theorems that are promised of them, and laws that proofs cite.
 pub mod Counted
 pub mod Counts
 pub mod Demand

@@ -1,4 +1,6 @@
--- Definitions: counted results and loops, curves and brackets, the searches, the entries, and what demand 3 says of them; and laws about them.
+-- What layer four computes (REQUIREMENTS 10), and what is proved of it. The files here are the definitions that its contracts and theorems promise,
+-- in the order in which they build on each other: a reader has to believe these. Internal has definitions that only serve the code's inner steps.
+-- Laws has facts about the definitions, each proved. Keystrokes has values that the definitions compute.
 pub mod Counted
 pub mod Loops
 pub mod Curves

@@ -1,4 +1,4 @@
--- `inverse_gaussian_quantile_actuar` and what it calls: Newton steps on the standardised variable x / mu. Definitions only.
+-- `inverse_gaussian_quantile_actuar` and what it calls: Newton steps on the variable divided by mu (REQUIREMENTS 10.8). Definitions only.
 use mathlib.Core.Bool.{Bool, cond}
 use lib.Ieee.{Float, neg, lt, le}
 use Rattle.arithmetic.specs.Operations.{_⊕_, _⊖_, _⊗_, _⊘_, bits, plusZero, half, one, minPositive}
@@ -28,7 +28,7 @@ inverseGaussianCdfStandardized x phi = inverseGaussianCdf (x ⊗ phi) phi
 abbrev pub inverseGaussianPdfStandardized : Float → Float → Float
 inverseGaussianPdfStandardized x phi = phi ⊗ inverseGaussianPdf (x ⊗ phi) phi
 
--- a step's numerator: by logarithms where they are close
+-- a step's numerator, the probability less a cdf above 0: by their logarithms where these differ by less than 1.0e-5
 unfoldable pub numerator : Float → Float → Float → Float
 numerator cdf probability logProbability =
     let delta = logProbability ⊖ ln cdf in
@@ -36,15 +36,16 @@ numerator cdf probability logProbability =
     (cond (lt (abs delta) (bits 0x3EE4_F8B5_88E3_68F1)) (delta ⊗ exp (logProbability ⊕ ln1p (neg half ⊗ delta))) (probability ⊖ cdf))  -- 1.0e-5
     probability
 
--- the step that would bring an error to 0 where the density is pdf: a move, or none
+-- a Newton step: the move error / pdf, or none where the density pdf is not proper
 unfoldable pub nrstep : Float → Float → Option Float
 nrstep pdf error = cond (finitePositive pdf) (some (error ⊘ pdf)) none
 
--- `inverse_gaussian_nrstep_standardized`, where the distribution's value is cdf
+-- `inverse_gaussian_nrstep_standardized`, where the distribution at x is cdf
 abbrev pub inverseGaussianNrstepStandardized : Float → Float → Float → Float → Float → Option Float
-inverseGaussianNrstepStandardized x cdf probability logProbability phi = nrstep (inverseGaussianPdfStandardized x phi) (numerator cdf probability logProbability)
+inverseGaussianNrstepStandardized x cdf probability logProbability phi =
+    nrstep (inverseGaussianPdfStandardized x phi) (numerator cdf probability logProbability)
 
--- where the steps start
+-- where the steps start, by the logarithm of the probability
 unfoldable pub seed : Float → Float → Float → Float
 seed probability logProbability mu =
     let z = inverseNormCdf probability in
@@ -53,32 +54,34 @@ seed probability logProbability mu =
     (cond (lt (bits 0xBEE4_F8B5_88E3_68F1) logProbability) (max (inverseGaussianQuantileInitialGuess probability mu ⊘ mu) mode)  -- -1.0e-5
     mode)
 
--- the seed; where that is not finite and above 0 the mode, or the smallest normal value if that is larger
+-- the seed; where that is not proper, the larger of the mode and the smallest normal value
 unfoldable pub initialX : Float → Float → Float → Float
 initialX probability logProbability mu =
     let x = seed probability logProbability mu in
     cond (finitePositive x) x (max (inverseGaussianModeStandardized mu) minPositive)
 
--- ACTUAR_RELATIVE_QUANTILE_TOLERANCE, 1.0e-14
+-- a move dx to x is small, relative to x: ACTUAR_RELATIVE_QUANTILE_TOLERANCE is 1.0e-14
 unfoldable pub converged : Float → Float → Bool
 converged dx x = le (abs dx ⊘ x) (bits 0x3D06_849B_86A1_2B9B)
 
--- Where the steps stand: x, and the direction of the first move. After a move dx to x the search fails where x is not finite and above 0,
--- and has its root where the move was small.
+-- A state of the steps is x and the direction of the first move. After a move dx to x there is no root where x is not proper; where the move was
+-- small, x * mu is the root.
 unfoldable pub afterMove : Float → Float → Float → Float → Next (Float × Float) (Option Float)
-afterMove mu x dx direction = cond (finitePositive x) (cond (converged dx x) (stop (some (x ⊗ mu))) (go (x, direction))) (stop none)
+afterMove mu x dx direction =
+    cond (finitePositive x) (cond (converged dx x) (stop (some (x ⊗ mu))) (go (x, direction)))
+    (stop none)
 
--- after the first step, from x
+-- after the first step, from x: its sign is the direction
 unfoldable pub first : Float → Float → Option Float → Next (Float × Float) (Option Float)
 first mu x (some dx) = afterMove mu (x ⊕ dx) dx (signum dx)
 first mu x none = stop none
 
--- a move against the first direction ends the search
+-- after a later step: a move against the direction is not made, and x * mu is the root
 unfoldable pub later : Float → Float → Float → Option Float → Next (Float × Float) (Option Float)
 later mu x direction (some dx) = cond (lt (dx ⊗ direction) plusZero) (stop (some (x ⊗ mu))) (afterMove mu (x ⊕ dx) dx direction)
 later mu x direction none = stop none
 
--- the loop of the steps after the first
+-- the steps after the first
 abbrev pub newtonLoop : Float → Float → Float → Loop (Float × Float) (Option Float)
 newtonLoop probability logProbability mu = record {
   ask = λ x. inverseGaussianCdfStandardized x mu;
@@ -87,7 +90,7 @@ newtonLoop probability logProbability mu = record {
   out = λ s. some (s .0 ⊗ mu);
 }
 
--- the outcome where no step is left
+-- the root where no step is left
 abbrev pub last : Float → Next (Float × Float) (Option Float) → Option Float
 last mu (stop t) = t
 last mu (go s) = some (s .0 ⊗ mu)
@@ -101,4 +104,5 @@ unfoldable pub inverseGaussianQuantileActuar : Float → Float → Counted (Opti
 inverseGaussianQuantileActuar probability mu =
     let logProbability = ln probability in
     let x = initialX probability logProbability mu in
-    tick (steps probability logProbability mu (first mu x (inverseGaussianNrstepStandardized x (inverseGaussianCdfStandardized x mu) probability logProbability mu)))
+    let cdf = inverseGaussianCdfStandardized x mu in
+    tick (steps probability logProbability mu (first mu x (inverseGaussianNrstepStandardized x cdf probability logProbability mu)))

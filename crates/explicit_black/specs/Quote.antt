@@ -1,4 +1,5 @@
--- The entries of explicit_black.rs, `implied_black_volatility_normalised` and `implied_black_volatility_input`, with the refusals of document 01. Definitions only.
+-- The entries of explicit_black.rs, `implied_black_volatility_normalised` (REQUIREMENTS 10.12) and `implied_black_volatility_input` (10.13), with the
+-- refusals of REQUIREMENTS 5. Definitions only.
 use Prim.Native.Nat.{ℕ}
 use mathlib.Core.Bool.{not, _&&_, _||_, cond}
 use lib.Dec.{eqb}
@@ -14,12 +15,12 @@ use Rattle.explicit_black.specs.Curves.{finitePositive}
 use Rattle.explicit_black.specs.Quantile.{inverseGaussianQuantile}
 use Rattle.explicit_black.specs.Survival.{inverseGaussianQuantileFromSurvival}
 
--- what the figures of a quote lead to: the total volatility, which √time has yet to divide, or the number of a refusal
+-- what the figures of a quote lead to: the total volatility, not yet divided by √time, or the number of a refusal
 pub data Outcome : Type 0 where
   total : Float → Outcome
   refused : ℕ → Outcome
 
--- what an entry hands back: total volatility, volatility and count; or a refusal's number and count
+-- what an entry hands back: an answer's total volatility, volatility and count; or a refusal's number and count
 pub data Reply : Type 0 where
   answer : Float → Float → ℕ → Reply
   refusal : ℕ → ℕ → Reply
@@ -29,6 +30,7 @@ unfoldable pub volatility : Float → Float → Float
 unfolding sqrt
 volatility time v = cond (eq time plusZero) plusZero (v ⊘ sqrt time)
 
+-- an outcome with its count, as an entry hands it back
 abbrev pub replyOf : Float → Outcome → ℕ → Reply
 replyOf time (total v) count = answer v (volatility time v) count
 replyOf time (refused number) count = refusal number count
@@ -42,19 +44,20 @@ reply time c = replyOf time (c .result) (c .count)
 unfoldable pub impliedNormalisedVolatilityAtm : Float → Float
 impliedNormalisedVolatilityAtm beta = two ⊗ sqrt2 ⊗ erfinv beta
 
--- at the money; a value that is NaN or below 0, which is one that is not at least 0, is refused
+-- at the money; a total that is NaN or below 0, which is one that is not at least 0, is refused
 unfoldable pub atTheMoney : Float → Outcome
 atTheMoney price = let v = impliedNormalisedVolatilityAtm price in cond (le plusZero v) (total v) (refused 9)
 
--- the total volatility at the root of a search; none, and a root that is not finite and above 0, are refused
+-- the total volatility at the root of a search; no root, and one that is not proper, are refused
 unfoldable pub totalAt : Option Float → Outcome
 totalAt (some x) = cond (finitePositive x) (total (two ⊘ sqrt x)) (refused 9)
 totalAt none = refused 9
 
+-- a search for a root, as one for the total volatility
 abbrev pub searched : Counted (Option Float) → Counted Outcome
 searched c = record { result = totalAt (c .result); count = c .count }
 
--- away from the money: the price as a fraction of its bound is a survival probability, and is searched for as such where it is small
+-- away from the money: the price divided by b_max is the probability of the upper tail; where it is small the quantile is searched for by that
 unfoldable pub fromCallPrice : Float → Float → Counted Outcome
 fromCallPrice otmCallPrice mu =
     let probability = one ⊖ otmCallPrice in
@@ -64,7 +67,7 @@ fromCallPrice otmCallPrice mu =
     (cond (le one probability) (atOnce (total plusZero))
     (searched (inverseGaussianQuantile probability mu))))
 
--- tests 7, 8 and 9, and what passes them
+-- tests 7 and 8, and what passes them; bMax is the bound of a normalised price
 unfoldable pub fromNormalisedPrice : Float → Float → Counted Outcome
 fromNormalisedPrice logMoneyness price =
     let absX = abs logMoneyness in
@@ -74,7 +77,7 @@ fromNormalisedPrice logMoneyness price =
     (cond (eq absX plusZero) (atOnce (atTheMoney price))
     (fromCallPrice (price ⊘ bMax) (two ⊘ absX))))
 
--- test 2 comes first; the answer is as at time 1
+-- test 2, and what passes it; the answer is as at time 1
 unfoldable pub impliedBlackVolatilityNormalised : Float → Float → Reply
 impliedBlackVolatilityNormalised logMoneyness price =
     reply one (cond (isFinite logMoneyness && isFinite price) (fromNormalisedPrice logMoneyness price) (atOnce (refused 2)))
@@ -90,41 +93,45 @@ firstRefusal side price forward strike time =
     (cond (lt time plusZero) 4
     0)))
 
+-- what the option is worth if it is exercised at once
 abbrev pub intrinsicValue : ℕ → Float → Float → Float
 intrinsicValue side forward strike = cond (eqb side 0) (forward ⊖ strike) (strike ⊖ forward)
 
--- no price is above the forward of a call, or the strike of a put
+-- the bound of a price: the forward of a call, the strike of a put
 abbrev pub priceBound : ℕ → Float → Float → Float
 priceBound side forward strike = cond (eqb side 0) forward strike
 
--- the price without its intrinsic value, over the product of the roots of forward and strike
+-- the price, less the intrinsic value where that is above 0, divided by the product of the roots of forward and strike
 abbrev pub normalisedTimeValue : Float → Float → Float → Float
 normalisedTimeValue price intrinsic roots = cond (lt plusZero intrinsic) (price ⊖ intrinsic) price ⊘ roots
 
--- test 7, and what passes it
+-- test 7; a time value of at most the smallest normal value has the total 0; and what passes
 unfoldable pub fromTimeValue : Float → Float → Counted Outcome
 fromTimeValue logMoneyness timeValue =
     cond (le timeValue minPositive) (atOnce (cond (le plusZero timeValue) (total plusZero) (refused 7)))
     (fromNormalisedPrice logMoneyness timeValue)
 
--- tests 5 and 6: what they decide; nothing where the price is below its bound at a time above zero
+-- tests 5 and 6: what they decide; nothing where the price is below its bound at another time than zero
 unfoldable pub boundTests : Float → Float → Float → Float → Option Outcome
 boundTests price intrinsic bound time =
     cond (eq time plusZero) (some (cond (eq price (max intrinsic plusZero)) (total plusZero) (refused 5)))
     (cond (le bound price) (some (cond (eq price bound) (total infinity) (refused 6)))
     none)
 
--- what tests 5 and 6 decide, and else the search for the normalised time value
+-- what tests 5 and 6 decide, and else what follows from the normalised time value
 unfoldable pub fromPrice : Float → Float → Float → Float → Float → Float → Counted Outcome
 unfolding boundTests orElse
 fromPrice price intrinsic bound roots logMoneyness time =
     orElse (boundTests price intrinsic bound time) (fromTimeValue logMoneyness (normalisedTimeValue price intrinsic roots))
 
+-- tests 1 to 4, and what passes them
 unfoldable pub fromQuote : ℕ → Float → Float → Float → Float → Counted Outcome
 fromQuote side price forward strike time =
     let number = firstRefusal side price forward strike time in
+    let intrinsic = intrinsicValue side forward strike in
+    let bound = priceBound side forward strike in
     cond (eqb number 0)
-    (fromPrice price (intrinsicValue side forward strike) (priceBound side forward strike) (sqrt forward ⊗ sqrt strike) (negativeAbsLogMoneyness forward strike) time)
+    (fromPrice price intrinsic bound (sqrt forward ⊗ sqrt strike) (negativeAbsLogMoneyness forward strike) time)
     (atOnce (refused number))
 
 unfoldable pub impliedBlackVolatilityInput : ℕ → Float → Float → Float → Float → Reply

@@ -1,4 +1,4 @@
--- The number and the values that each case of an entry's answer stands for. Definitions only.
+-- Which number and values each case of an entry's reply stands for (REQUIREMENTS 13.4): the entries' contracts speak through it. Definitions only.
 use Rattle.explicit_black.specs.declared.quote.Reply.{Reply as Handed}
 use Rattle.explicit_black.specs.declared.quote.Reply.the-variants.{Answer, Refusal}
 use Rattle.explicit_black.specs.Quote.{Reply, answer, refusal}

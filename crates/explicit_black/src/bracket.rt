@@ -13,7 +13,8 @@ ghost use mathlib.Core.Bool.{true};
 ghost use Rattle.explicit_black.specs.Counted.{limited, someOf};
 ghost use Rattle.explicit_black.specs.Internal.Searches.{viewReach, viewWidening};
 ghost use Rattle.explicit_black.specs.Curves.{finitePositive};
-ghost use Rattle.explicit_black.specs.Bracket.{bracketMidpoint, bracketIsTight, doubled, doubledFrom, widened, bracketQuantileFromBelow, halved, lowered, bracketQuantileFromAbove, narrowed, inside, chosen};
+ghost use Rattle.explicit_black.specs.Bracket.{doubled, doubledFrom, widened, bracketQuantileFromBelow, halved, lowered, bracketQuantileFromAbove};
+ghost use Rattle.explicit_black.specs.Bracket.{bracketMidpoint, bracketIsTight, narrowed, inside, chosen};
 
 // 32 times f64::EPSILON
 pub(crate) const QUANTILE_BRACKET_TOLERANCE: f64 = 7.105427357601002e-15;
@@ -23,8 +24,8 @@ pub struct Bracket {
     pub upper: f64,
 }
 
-// What a value at the new bound leads to: the search for a bracket stops, or a wider one is to be
-// tried.
+// What the search for a bracket makes of the value at the bound that it moves: the bracket is found, or the next
+// one is to be evaluated.
 pub enum Widening {
     Reached(Bracket),
     Wider(Bracket),
@@ -39,7 +40,7 @@ fn doubled(x: f64) -> f64
 }
 
 impl Bracket {
-    // From x to its double.
+    // The bracket from x to its double.
     pub fn doubled_from(x: f64) -> Bracket
         ensures { λ r. ⌜ r ≡ doubledFrom x ⌝ }
     {
@@ -49,7 +50,8 @@ impl Bracket {
         }
     }
 
-    // What is next where the distribution is `cdf` at the upper bound.
+    // The bracket is found where `cdf`, the distribution at its upper bound, reaches the probability, or no finite
+    // value is above that bound.
     pub fn widened(self, cdf: f64, probability: f64) -> Widening
         ensures { λ r. ⌜ viewWidening r ≡ widened probability self cdf ⌝ }
     {
@@ -62,7 +64,8 @@ impl Bracket {
         Widening::Wider(Bracket::doubled_from(self.upper))
     }
 
-    // From half of x to upper: to be tried, unless that half is too small.
+    // The bracket from half of x; where that half is at most the smallest normal value from 0, which needs no
+    // evaluation.
     pub fn halved(x: f64, upper: f64) -> Widening
         ensures { λ r. ⌜ viewWidening r ≡ halved x upper ⌝ }
     {
@@ -79,7 +82,7 @@ impl Bracket {
         })
     }
 
-    // What is next where the distribution is `cdf` at the lower bound.
+    // The bracket is found where `cdf`, the distribution at its lower bound, is at most the probability.
     pub fn lowered(self, cdf: f64, probability: f64) -> Widening
         ensures { λ r. ⌜ viewWidening r ≡ lowered probability self cdf ⌝ }
     {
@@ -89,7 +92,7 @@ impl Bracket {
         Bracket::halved(self.lower, self.lower * 2.0)
     }
 
-    // The same bracket with one bound moved to x.
+    // The bound on the side of x away from the root is moved to x.
     pub fn narrowed(self, x: f64, root_is_above: bool) -> Bracket
         ensures { λ r. ⌜ r ≡ narrowed self x «root_is_above» ⌝ }
     {
@@ -121,7 +124,7 @@ impl Bracket {
         }
     }
 
-    // The next point if the bracket holds it, and else the midpoint.
+    // The point of a Newton step if the bracket holds it, and else the midpoint.
     pub fn chosen(self, next: f64) -> f64
         ensures { λ r. ⌜ r ≡ chosen self next ⌝ }
     {
@@ -133,6 +136,7 @@ impl Bracket {
     }
 }
 
+// Doubles from `initial`, where the distribution is below the probability, until it no longer is.
 pub(crate) fn bracket_quantile_from_below(
     initial: f64,
     mu: f64,
@@ -158,6 +162,7 @@ pub(crate) fn bracket_quantile_from_below(
     }
 }
 
+// Halves from `initial`, where the distribution is not below the probability, until it is not above.
 pub(crate) fn bracket_quantile_from_above(
     initial: f64,
     mu: f64,

@@ -2,14 +2,14 @@
 use crate::bracket::Bracket;
 use crate::curves::Allowance;
 
-// A bracket, or none where the largest finite value was passed.
+// The search for a bracket: one, or none where the root is above the largest finite value.
 pub enum Reach {
     Found(Bracket, Allowance),
     None(Allowance),
     Spent,
 }
 
-// A root, or none.
+// The search for a quantile: a root, or none.
 pub enum Quantile {
     Root(f64, Allowance),
     None(Allowance),

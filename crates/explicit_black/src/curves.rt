@@ -11,9 +11,10 @@ use special_function::normal_distribution::norm_pdf;
 use special_function::normal_distribution::norm_pdf_of_square;
 ghost use mathlib.Core.Path.{_≡_};
 ghost use Prim.Native.Nat.{_-_, _<_};
-ghost use Rattle.explicit_black.specs.Counted.{sample, limited, tick, atOnce};
+ghost use Rattle.explicit_black.specs.Counted.{limited};
+ghost use Rattle.explicit_black.specs.Internal.Contracts.{evaluated};
 ghost use Rattle.explicit_black.specs.Internal.Searches.{pdfFrom, viewEvaluation, viewSurvivalEvaluation};
-ghost use Rattle.explicit_black.specs.Curves.{inverseGaussianSurvival, inverseGaussianCdf, inverseGaussianPdf};
+ghost use Rattle.explicit_black.specs.Curves.{inverseGaussianSurvival, inverseGaussianCdf};
 
 // How many evaluations are still allowed.
 pub struct Allowance {
@@ -64,7 +65,7 @@ pub enum SurvivalEvaluation {
 }
 
 pub fn inverse_gaussian_survival(x: f64, mu: f64, allowed: Allowance) -> SurvivalEvaluation
-    ensures { λ r. ⌜ viewSurvivalEvaluation x r ≡ limited (allowed .left) (tick (atOnce (sample (inverseGaussianSurvival x mu) (inverseGaussianPdf x mu)))) ⌝ }
+    ensures { λ r. ⌜ viewSurvivalEvaluation x r ≡ limited (allowed .left) (evaluated inverseGaussianSurvival x mu) ⌝ }
 {
     if allowed.left == 0 {
         return SurvivalEvaluation::Spent;
@@ -84,7 +85,7 @@ pub fn inverse_gaussian_survival(x: f64, mu: f64, allowed: Allowance) -> Surviva
 }
 
 pub fn inverse_gaussian_cdf(x: f64, mu: f64, allowed: Allowance) -> Evaluation
-    ensures { λ r. ⌜ viewEvaluation r ≡ limited (allowed .left) (tick (atOnce (sample (inverseGaussianCdf x mu) (inverseGaussianPdf x mu)))) ⌝ }
+    ensures { λ r. ⌜ viewEvaluation r ≡ limited (allowed .left) (evaluated inverseGaussianCdf x mu) ⌝ }
 {
     if allowed.left == 0 {
         return Evaluation::Spent;

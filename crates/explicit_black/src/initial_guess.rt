@@ -4,7 +4,8 @@ use arithmetic::mul_add::mul_add;
 use arithmetic::sqrt::sqrt;
 use special_function::normal_distribution::inverse_norm_cdf;
 ghost use mathlib.Core.Path.{_≡_};
-ghost use Rattle.explicit_black.specs.Curves.{finitePositive, inverseGaussianQuantileInitialGuess, inverseGaussianQuantileInitialGuessFromZ, startingPoint};
+ghost use Rattle.explicit_black.specs.Curves.{inverseGaussianQuantileInitialGuess, inverseGaussianQuantileInitialGuessFromZ};
+ghost use Rattle.explicit_black.specs.Curves.{finitePositive, startingPoint};
 
 // Whether x is finite and above 0.
 pub fn is_finite_positive(x: f64) -> bool

@@ -18,7 +18,8 @@ use special_function::normal_distribution::inverse_norm_cdf;
 ghost use mathlib.Core.Path.{_≡_};
 ghost use Rattle.explicit_black.specs.Counted.{limited, have};
 ghost use Rattle.explicit_black.specs.Internal.Searches.{viewNewton, viewStepped, viewQuantile};
-ghost use Rattle.explicit_black.specs.Newton.{seed, initialX, steps, inverseGaussianQuantileActuar, inverseGaussianModeStandardized, numerator, nrstep, converged, afterMove, first, later, last};
+ghost use Rattle.explicit_black.specs.Newton.{seed, initialX, numerator, nrstep, converged, afterMove, first, later, last, steps};
+ghost use Rattle.explicit_black.specs.Newton.{inverseGaussianModeStandardized, inverseGaussianQuantileActuar};
 
 const ACTUAR_RELATIVE_QUANTILE_TOLERANCE: f64 = 1.0e-14;
 
@@ -28,19 +29,21 @@ const LEFT_SMALL_PROBABILITY_LOG_THRESHOLD: f64 = -11.51;
 
 const RIGHT_SMALL_PROBABILITY_LOG_THRESHOLD: f64 = -1.0e-5;
 
-// A Newton step: a move, perhaps infinite, or the refusal to move.
+// A Newton step: a move, perhaps infinite, or the refusal to move where the density cannot be divided by.
 pub enum Newton {
     Move(f64),
     Refused,
 }
 
-// What a step leads to: the root, none, or the next point with the direction of the first move.
+// After a step: the root; none, where the step was refused or left the values that are finite and above 0;
+// or the point of the next step, with the direction of the first move.
 pub enum Stepped {
     Root(f64),
     None,
     Again(f64, f64),
 }
 
+// The mode; in the far left tail and in the far right one a guess for that tail.
 fn seed(probability: f64, log_probability: f64, mu: f64) -> f64
     ensures { λ r. ⌜ r ≡ seed probability «log_probability» mu ⌝ }
 {
@@ -58,8 +61,8 @@ fn seed(probability: f64, log_probability: f64, mu: f64) -> f64
     mode
 }
 
-// The seed; where that is not finite and above 0 the mode, or the smallest normal value if that is
-// larger.
+// Where the steps start: the seed; where that is not finite and above 0 the mode, or the smallest normal value
+// if that is larger.
 fn initial_x(probability: f64, log_probability: f64, mu: f64) -> f64
     ensures { λ r. ⌜ r ≡ initialX probability «log_probability» mu ⌝ }
 {
@@ -91,7 +94,7 @@ fn after_move(x: f64, dx: f64, direction: f64, mu: f64) -> Stepped
 }
 
 impl Newton {
-    // After the first step, from x.
+    // The first step, made at x, whose sign the later ones keep.
     pub fn first(self, x: f64, mu: f64) -> Stepped
         ensures { λ r. ⌜ viewStepped r ≡ first mu x (viewNewton self) ⌝ }
     {
@@ -101,7 +104,7 @@ impl Newton {
         }
     }
 
-    // After a later step, from x: one against the first direction ends the search.
+    // A later step, made at x: one against the direction of the first is not taken, and x is the root.
     pub fn later(self, x: f64, direction: f64, mu: f64) -> Stepped
         ensures { λ r. ⌜ viewStepped r ≡ later mu x direction (viewNewton self) ⌝ }
     {
@@ -118,7 +121,7 @@ impl Newton {
 }
 
 impl Stepped {
-    // The outcome where no step is left.
+    // After the last step that may be made its point is the root.
     pub fn last(self, mu: f64, left: Allowance) -> Quantile
         ensures { λ r. ⌜ viewQuantile r ≡ have (last mu (viewStepped self)) (left .left) ⌝ }
     {
@@ -130,7 +133,7 @@ impl Stepped {
     }
 }
 
-// The steps after the first.
+// The steps after the first, of which there are at most 99.
 fn steps(
     begin: Stepped,
     probability: f64,
@@ -188,6 +191,7 @@ pub fn inverse_gaussian_mode_standardized(phi: f64) -> f64
     reciprocal * (1.0 - reciprocal * reciprocal)
 }
 
+// The error of `cdf`, by logarithms where it is close to the probability.
 fn numerator(cdf: f64, probability: f64, log_probability: f64) -> f64
     ensures { λ r. ⌜ r ≡ numerator cdf probability «log_probability» ⌝ }
 {

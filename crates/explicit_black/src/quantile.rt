@@ -24,9 +24,10 @@ ghost use mathlib.Core.Bool.{true};
 ghost use Rattle.explicit_black.specs.Counted.{limited, mapped, someOf};
 ghost use Rattle.explicit_black.specs.Curves.{finitePositive};
 ghost use Rattle.explicit_black.specs.Internal.Searches.{viewReach, viewQuantile, viewNewton, viewIteration};
-ghost use Rattle.explicit_black.specs.Quantile.{solvable, filtered, inverseGaussianQuantile, bracketAt, floor, raised, clamped, continueAt, moved, iteration, iterations, inverseGaussianQuantileBracketed};
+ghost use Rattle.explicit_black.specs.Quantile.{bracketAt, floor, raised, clamped, continueAt, moved, iteration, iterations};
+ghost use Rattle.explicit_black.specs.Quantile.{solvable, filtered, inverseGaussianQuantile, inverseGaussianQuantileBracketed};
 
-// What a round leads to: the root, or a narrower bracket with the next point.
+// After an iteration: the root, or a narrower bracket with the point of the next iteration.
 pub enum Iteration {
     Root(f64),
     Again(Bracket, f64),
@@ -78,7 +79,7 @@ pub fn inverse_gaussian_quantile(probability: f64, mu: f64, allowed: Allowance) 
     }
 }
 
-// The bracket on the side that the value at x points to.
+// Upwards from x where the distribution there is below the probability, and else downwards.
 fn bracket_at(x: f64, cdf: f64, mu: f64, probability: f64, allowed: Allowance) -> Reach
     requires { ⌜ finitePositive x ≡ true ⌝ }
     ensures { λ r. ⌜ viewReach r ≡ limited (allowed .left) (someOf (bracketAt x cdf mu probability)) ⌝ }
@@ -91,6 +92,7 @@ fn bracket_at(x: f64, cdf: f64, mu: f64, probability: f64, allowed: Allowance) -
 }
 
 impl Bracket {
+    // The lower bound, or the smallest normal value where that is 0.
     fn floor(self) -> f64
         ensures { λ r. ⌜ r ≡ floor self ⌝ }
     {
@@ -120,7 +122,7 @@ impl Bracket {
         }
     }
 
-    // On to the next point, unless that is x again.
+    // Another iteration at `next`, unless that is x again: then nothing would change, and the midpoint is the root.
     fn continue_at(self, x: f64, next: f64) -> Iteration
         ensures { λ r. ⌜ viewIteration r ≡ continueAt self x next ⌝ }
     {
@@ -130,7 +132,8 @@ impl Bracket {
         Iteration::Again(self, next)
     }
 
-    // A small step is the end; any other is taken if it stays inside the bracket.
+    // A step within the tolerance, relative to x or to 1 if that is larger, leads to the root; any other to another
+    // iteration.
     fn moved(self, x: f64, step: Newton) -> Iteration
         ensures { λ r. ⌜ viewIteration r ≡ moved self x (viewNewton step) ⌝ }
     {
@@ -146,7 +149,7 @@ impl Bracket {
         }
     }
 
-    // One round, where at x the distribution is `cdf` and the density `pdf`.
+    // One iteration, at x, where the distribution is `cdf` and the density `pdf`.
     pub fn iteration(self, x: f64, cdf: f64, pdf: f64, probability: f64) -> Iteration
         ensures { λ r. ⌜ viewIteration r ≡ iteration pdf probability (self, x) cdf ⌝ }
     {
@@ -162,6 +165,7 @@ impl Bracket {
     }
 }
 
+// At most 64 iterations, after which the midpoint is the root.
 fn iterations(start: Bracket, guess: f64, mu: f64, probability: f64, allowed: Allowance) -> Quantile
     ensures { λ r. ⌜ viewQuantile r ≡ limited (allowed .left) (someOf (iterations mu probability start guess)) ⌝ }
 {
@@ -186,6 +190,7 @@ fn iterations(start: Bracket, guess: f64, mu: f64, probability: f64, allowed: Al
     Quantile::Root(bracket_midpoint(bracket), left)
 }
 
+// One evaluation at the starting point, a bracket on the side of the root, and the iterations in it.
 pub(crate) fn inverse_gaussian_quantile_bracketed(
     probability: f64,
     mu: f64,

@@ -23,7 +23,10 @@ ghost use Rattle.arithmetic.specs.Sqrt.{sqrt};
 ghost use Rattle.bs_option_price.specs.BsOptionPrice.{negativeAbsLogMoneyness};
 ghost use Rattle.explicit_black.specs.Counted.{atOnce, mapped, limited};
 ghost use Rattle.explicit_black.specs.Internal.Searches.{viewQuantile};
-ghost use Rattle.explicit_black.specs.Quote.{impliedNormalisedVolatilityAtm, atTheMoney, totalAt, fromCallPrice, fromNormalisedPrice, impliedBlackVolatilityNormalised, firstRefusal, intrinsicValue, priceBound, normalisedTimeValue, boundTests, fromTimeValue, fromPrice, fromQuote, impliedBlackVolatilityInput, volatility};
+ghost use Rattle.explicit_black.specs.Quote.{impliedNormalisedVolatilityAtm, atTheMoney, totalAt, volatility, fromCallPrice, fromNormalisedPrice};
+ghost use Rattle.explicit_black.specs.Quote.{firstRefusal, intrinsicValue, priceBound, boundTests, normalisedTimeValue};
+ghost use Rattle.explicit_black.specs.Quote.{fromTimeValue, fromPrice, fromQuote};
+ghost use Rattle.explicit_black.specs.Quote.{impliedBlackVolatilityNormalised, impliedBlackVolatilityInput};
 ghost use Rattle.explicit_black.specs.Internal.Quote.{viewSolved, viewTested, LeftWithin, RepliesTo};
 ghost use Rattle.explicit_black.specs.Replies.{viewReply};
 
@@ -38,7 +41,7 @@ pub enum Solved {
     Spent,
 }
 
-// What an entry hands back.
+// What an entry hands back: an answer, or the number of a refusal, each with how many evaluations were made.
 pub enum Reply {
     Answer {
         total: f64,
@@ -66,7 +69,7 @@ fn volatility(total: f64, time: f64, root_time: f64) -> f64
 }
 
 impl Solved {
-    // The reply of a quote that was allowed so many evaluations: its count is what its calls took off.
+    // The reply to a quote that was allowed so many evaluations: the count is what its calls took off.
     fn reply(self, allowed: u64, time: f64, root_time: f64) -> Reply
         requires { ⌜ («root_time» ≡ sqrt time) × LeftWithin allowed (viewSolved self) ⌝ }
         ensures { λ r. ⌜ RepliesTo allowed time (viewSolved self) (viewReply r) ⌝ }
@@ -81,7 +84,7 @@ impl Solved {
                 number: number,
                 count: allowed - rest.left(),
             },
-            // Within says that this is no case
+            // never: `LeftWithin` says that the allowance was not spent
             Solved::Spent => Reply::Refusal {
                 number: 9,
                 count: allowed,
@@ -96,7 +99,7 @@ fn implied_normalised_volatility_atm(beta: f64) -> f64
     2.0 * SQRT_2 * erfinv(beta)
 }
 
-// Refused where the value is NaN or below 0.
+// The closed form at the money, refused where its value is NaN or below 0.
 fn at_the_money(price: f64, allowed: Allowance) -> Solved
     ensures { λ r. ⌜ viewSolved r ≡ limited (allowed .left) (atOnce (atTheMoney price)) ⌝ }
 {
@@ -107,7 +110,7 @@ fn at_the_money(price: f64, allowed: Allowance) -> Solved
     Solved::Refused(9, allowed)
 }
 
-// Refused where there is no root that is finite and above 0.
+// The total volatility at the root of a search, refused where there is none that is finite and above 0.
 fn total_at(root: Quantile) -> Solved
     ensures { λ r. ⌜ viewSolved r ≡ mapped totalAt (viewQuantile root) ⌝ }
 {
@@ -123,7 +126,8 @@ fn total_at(root: Quantile) -> Solved
     }
 }
 
-// The price is given as a fraction of its bound.
+// Solves from the price of the out-of-the-money call as a fraction of its bound, which is the survival probability at
+// the root.
 fn from_call_price(otm_call_price: f64, mu: f64, allowed: Allowance) -> Solved
     ensures { λ r. ⌜ viewSolved r ≡ limited (allowed .left) (fromCallPrice «otm_call_price» mu) ⌝ }
 {
@@ -140,7 +144,7 @@ fn from_call_price(otm_call_price: f64, mu: f64, allowed: Allowance) -> Solved
     total_at(inverse_gaussian_quantile(probability, mu, allowed))
 }
 
-// The normalised entry after its test for figures that are not finite, with an allowance.
+// Solves from the normalised price, after test 2: tests 7, 8 and 9.
 pub fn from_normalised_price(log_moneyness: f64, price: f64, allowed: Allowance) -> Solved
     ensures { λ r. ⌜ viewSolved r ≡ limited (allowed .left) (fromNormalisedPrice «log_moneyness» price) ⌝ }
 {
@@ -173,7 +177,7 @@ pub fn implied_black_volatility_normalised(log_moneyness: f64, normalised_price:
             count: 0,
         };
     }
-    // as at time 1
+    // the answer is as at time 1, whose root is 1
     let allowed = Allowance::new(MAX_EVALUATIONS);
     let solved = from_normalised_price(log_moneyness, normalised_price, allowed);
     solved.reply(MAX_EVALUATIONS, 1.0, 1.0)
@@ -221,7 +225,7 @@ fn price_bound(side: u32, forward: f64, strike: f64) -> f64
     if side == 0 { forward } else { strike }
 }
 
-// `roots` is the product of the roots of forward and strike.
+// The price without its intrinsic value, over `roots`, the product of the roots of forward and strike.
 fn normalised_time_value(price: f64, intrinsic: f64, roots: f64) -> f64
     ensures { λ r. ⌜ r ≡ normalisedTimeValue price intrinsic roots ⌝ }
 {
@@ -231,7 +235,7 @@ fn normalised_time_value(price: f64, intrinsic: f64, roots: f64) -> f64
     price / roots
 }
 
-// From the normalised time value on.
+// Solves from the normalised time value: test 7, and those of the normalised price.
 pub fn from_time_value(forward: f64, strike: f64, time_value: f64, allowed: Allowance) -> Solved
     ensures { λ r. ⌜ viewSolved r ≡ limited (allowed .left) (fromTimeValue (negativeAbsLogMoneyness forward strike) «time_value») ⌝ }
 {
@@ -255,7 +259,7 @@ pub enum Tested {
     Open,
 }
 
-// Tests 5 and 6.
+// Test 5, the price at time zero, and test 6, the bound of the price.
 pub fn bound_tests(price: f64, intrinsic: f64, bound: f64, time: f64) -> Tested
     ensures { λ r. ⌜ viewTested r ≡ boundTests price intrinsic bound time ⌝ }
 {
@@ -274,7 +278,7 @@ pub fn bound_tests(price: f64, intrinsic: f64, bound: f64, time: f64) -> Tested
     Tested::Open
 }
 
-// After tests 5 and 6: the solver, which is given the roots.
+// Solves from a price that passed tests 5 and 6, and the roots of forward and strike.
 pub fn from_roots(
     price: f64,
     intrinsic: f64,
@@ -284,13 +288,14 @@ pub fn from_roots(
     root_strike: f64,
     allowed: Allowance,
 ) -> Solved
-    ensures { λ r. ⌜ viewSolved r ≡ limited (allowed .left) (fromTimeValue (negativeAbsLogMoneyness forward strike) (normalisedTimeValue price intrinsic («root_forward» ⊗ «root_strike»))) ⌝ }
+    ensures { λ r. ⌜ viewSolved r ≡ limited (allowed .left)
+        (fromTimeValue (negativeAbsLogMoneyness forward strike) (normalisedTimeValue price intrinsic («root_forward» ⊗ «root_strike»))) ⌝ }
 {
     let time_value = normalised_time_value(price, intrinsic, root_forward * root_strike);
     from_time_value(forward, strike, time_value, allowed)
 }
 
-// From the price on.
+// Solves from the price, after tests 1 to 4: tests 5 and 6, and those of the time value.
 pub fn from_price(
     price: f64,
     intrinsic: f64,
@@ -300,7 +305,8 @@ pub fn from_price(
     time: f64,
     allowed: Allowance,
 ) -> Solved
-    ensures { λ r. ⌜ viewSolved r ≡ limited (allowed .left) (fromPrice price intrinsic bound (sqrt forward ⊗ sqrt strike) (negativeAbsLogMoneyness forward strike) time) ⌝ }
+    ensures { λ r. ⌜ viewSolved r ≡ limited (allowed .left)
+        (fromPrice price intrinsic bound (sqrt forward ⊗ sqrt strike) (negativeAbsLogMoneyness forward strike) time) ⌝ }
 {
     match bound_tests(price, intrinsic, bound, time) {
         Tested::Total(total) => Solved::Total(total, allowed),
@@ -317,7 +323,7 @@ pub fn from_price(
     }
 }
 
-// A quote with an allowance.
+// Solves from the figures of a quote: tests 1 to 4 (REQUIREMENTS 5), and those of the price.
 pub fn from_quote(
     side: u32,
     price: f64,

@@ -26,10 +26,12 @@ ghost use mathlib.Core.Bool.{true};
 ghost use Rattle.explicit_black.specs.Counted.{limited, someOf};
 ghost use Rattle.explicit_black.specs.Curves.{finitePositive};
 ghost use Rattle.explicit_black.specs.Internal.Searches.{viewReach, viewQuantile, viewNewton, viewIteration, viewWidening, viewDoubling};
-ghost use Rattle.explicit_black.specs.Survival.{cappedFrom, survivalWidened, survivalFromBelow, survivalLowered, survivalFromAbove, survivalBracketAt, far, survivalStep, survivalNewton, survivalMoved, survivalIteration, survivalIterations, inverseGaussianQuantileFromSurvival};
+ghost use Rattle.explicit_black.specs.Survival.{cappedFrom, survivalWidened, survivalFromBelow, survivalLowered, survivalFromAbove, survivalBracketAt};
+ghost use Rattle.explicit_black.specs.Survival.{far, survivalStep, survivalNewton, survivalMoved, survivalIteration, survivalIterations};
+ghost use Rattle.explicit_black.specs.Survival.{inverseGaussianQuantileFromSurvival};
 
-// What a value at the upper bound leads to: the bracket holds the root, a wider one is to be tried,
-// or there is no finite one.
+// What the doubling makes of the survival at the upper bound: the bracket is found, the next one is to be
+// evaluated, or there is none, since the root is above the largest finite value.
 pub enum Doubling {
     Reached(Bracket),
     Wider(Bracket),
@@ -37,7 +39,7 @@ pub enum Doubling {
 }
 
 impl Bracket {
-    // From x to its double, which is no more than the largest finite value.
+    // The bracket from x to its double, or to the largest finite value if that is smaller.
     pub fn capped_from(x: f64) -> Bracket
         ensures { λ r. ⌜ r ≡ cappedFrom x ⌝ }
     {
@@ -47,7 +49,7 @@ impl Bracket {
         }
     }
 
-    // What is next at the upper bound.
+    // The bracket is found where `survival`, which is that at its upper bound, is at most the probability.
     pub fn survival_widened(self, survival: f64, probability: f64) -> Doubling
         ensures { λ r. ⌜ viewDoubling r ≡ survivalWidened probability self survival ⌝ }
     {
@@ -60,7 +62,7 @@ impl Bracket {
         Doubling::Wider(Bracket::capped_from(self.upper))
     }
 
-    // What is next at the lower bound.
+    // The bracket is found where `survival`, which is that at its lower bound, reaches the probability.
     pub fn survival_lowered(self, survival: f64, probability: f64) -> Widening
         ensures { λ r. ⌜ viewWidening r ≡ survivalLowered probability self survival ⌝ }
     {
@@ -70,7 +72,8 @@ impl Bracket {
         Bracket::halved(self.lower, self.lower)
     }
 
-    // A small step is the end; any other is taken if it stays inside the bracket.
+    // A step within the tolerance, relative to x, leads to the root; any other to another iteration. The survival
+    // decreases, so that the step is added.
     fn survival_moved(self, x: f64, step: Newton) -> Iteration
         ensures { λ r. ⌜ viewIteration r ≡ survivalMoved self x (viewNewton step) ⌝ }
     {
@@ -86,7 +89,7 @@ impl Bracket {
         }
     }
 
-    // One round, where at x the survival is `survival` and the density `pdf`.
+    // One iteration, at x, where the survival is `survival` and the density `pdf`.
     pub fn survival_iteration(self, x: f64, survival: f64, pdf: f64, probability: f64) -> Iteration
         ensures { λ r. ⌜ viewIteration r ≡ survivalIteration pdf probability (self, x) survival ⌝ }
     {
@@ -102,6 +105,7 @@ impl Bracket {
     }
 }
 
+// Doubles from `initial`, where the survival is above the probability, until it no longer is.
 fn from_below(initial: f64, mu: f64, probability: f64, allowed: Allowance) -> Reach
     requires { ⌜ finitePositive initial ≡ true ⌝ }
     ensures { λ r. ⌜ viewReach r ≡ limited (allowed .left) (survivalFromBelow initial mu probability) ⌝ }
@@ -128,6 +132,7 @@ fn from_below(initial: f64, mu: f64, probability: f64, allowed: Allowance) -> Re
     }
 }
 
+// Halves from `initial`, where the survival is not above the probability, until it is not below.
 fn from_above(initial: f64, mu: f64, probability: f64, allowed: Allowance) -> Reach
     requires { ⌜ finitePositive initial ≡ true ⌝ }
     ensures { λ r. ⌜ viewReach r ≡ limited (allowed .left) (someOf (survivalFromAbove initial mu probability)) ⌝ }
@@ -153,7 +158,7 @@ fn from_above(initial: f64, mu: f64, probability: f64, allowed: Allowance) -> Re
     }
 }
 
-// The bracket on the side that the value at x points to.
+// Upwards from x where the survival there is above the probability, and else downwards.
 fn survival_bracket_at(
     x: f64,
     survival: f64,
@@ -171,7 +176,7 @@ fn survival_bracket_at(
     }
 }
 
-// Whether the survival is above 0 and further than half of the probability from it.
+// Whether the survival is above 0 and differs from the probability by more than half of it.
 fn is_far(survival: f64, probability: f64) -> bool
     ensures { λ r. ⌜ r ≡ far survival probability ⌝ }
 {
@@ -182,7 +187,7 @@ fn is_far(survival: f64, probability: f64) -> bool
     }
 }
 
-// The step where the density is `pdf`: by logarithms where the survival is far from the probability.
+// The step where the density is `pdf`: for the logarithm of the survival where that is far from the probability.
 fn survival_step(survival: f64, probability: f64, pdf: f64) -> f64
     ensures { λ r. ⌜ r ≡ survivalStep survival probability pdf ⌝ }
 {
@@ -201,6 +206,7 @@ fn survival_newton(survival: f64, probability: f64, pdf: f64) -> Newton
     Newton::Refused
 }
 
+// At most 64 iterations, after which the midpoint is the root.
 fn survival_iterations(
     start: Bracket,
     guess: f64,
@@ -237,6 +243,7 @@ fn survival_iterations(
     Quantile::Root(bracket_midpoint(bracket), left)
 }
 
+// One evaluation at the starting point, a bracket on the side of the root, and the iterations in it.
 pub fn inverse_gaussian_quantile_from_survival(
     probability: f64,
     mu: f64,

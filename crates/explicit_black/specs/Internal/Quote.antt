@@ -1,4 +1,5 @@
--- What the code's enums of a quote say, in the types of the definitions. Definitions only.
+-- For the inner functions of src/quote.rt: which outcome, in the types of the definitions, each case of an enum that they hand back stands for
+-- (`viewX` for the enum X), and what they promise of the allowance. No entry's contract cites these. Definitions only.
 use mathlib.Core.Path.{_≡_}
 use Prim.Native.Nat.{ℕ, _≤_}
 use lib.Ieee.{Float}
@@ -9,7 +10,7 @@ use Rattle.explicit_black.specs.declared.quote.Tested.the-variants.{Tota
 use Rattle.explicit_black.specs.Counted.{Option, some, none, Counted, Metered, have, spent, limited}
 use Rattle.explicit_black.specs.Quote.{Outcome, total, refused, Reply, reply}
 
--- the total volatility or the number of a refusal, with how many evaluations are left
+-- the outcome with how many evaluations are left, or an allowance that was spent
 abbrev pub viewSolved : Solved → Metered Outcome
 viewSolved (Total v n) = have (total v) (n .left)
 viewSolved (Refused number n) = have (refused number) (n .left)
@@ -21,11 +22,11 @@ viewTested (Told v) = some (total v)
 viewTested (Denied number) = some (refused number)
 viewTested Open = none
 
--- no more than n evaluations are left, and they were not spent
+-- the allowance was not spent, and no more than n evaluations are left
 abbrev pub LeftWithin : ℕ → Metered Outcome → Type 0
 LeftWithin n (have r left) = left ≤ n
 LeftWithin n spent = ⊥
 
--- r is the reply, at that time, of whatever a caller with n evaluations got m of
+-- where m is what a caller who is allowed n gets of an outcome c, r is the reply of c at that time
 abbrev pub RepliesTo : ℕ → Float → Metered Outcome → Reply → Type 0
 RepliesTo n time m r = (c : Counted Outcome) → m ≡ limited n c → r ≡ reply time c

@@ -1,4 +1,5 @@
--- What the code's enums say, in the types of the definitions. Definitions only.
+-- For the functions that search: which sample, root, bracket or next state, in the types of the definitions, each case of an enum that they hand back
+-- stands for (`viewX` for the enum X). No entry's contract cites these. Definitions only.
 use lib.Ieee.{Float}
 use Rattle.arithmetic.specs.Operations.{_⊗_, _⊘_}
 use Rattle.special_function.specs.NormalDistribution.{normPdf}
@@ -24,9 +25,9 @@ use Rattle.explicit_black.specs.declared.survival.Doubling.the-variants.
 use Rattle.explicit_black.specs.Counted.{Option, some, none, Sample, sample, Metered, have, spent}
 use Rattle.explicit_black.specs.Loops.{Next, go, stop}
 
--- ---- with how many evaluations are left
+-- ---- what an evaluation or a search gives, with how many evaluations are left
 
--- a value of the distribution and the density
+-- the distribution and the density at a point
 abbrev pub viewEvaluation : Evaluation → Metered Sample
 viewEvaluation (Value v pdf n) = have (sample v pdf) (n .left)
 viewEvaluation NoValue = spent
@@ -35,7 +36,7 @@ viewEvaluation NoValue = spent
 abbrev pub pdfFrom : Float → Float → Float → Float
 pdfFrom x sqrtX a = normPdf (a ⊗ a) ⊘ (x ⊗ sqrtX)
 
--- a value of the survival probability at x and the density
+-- the survival and the density at x
 abbrev pub viewSurvivalEvaluation : Float → SurvivalEvaluation → Metered Sample
 viewSurvivalEvaluation x (Survives v sqrtX a n) = have (sample v (pdfFrom x sqrtX a)) (n .left)
 viewSurvivalEvaluation x NoSurvival = spent
@@ -52,9 +53,9 @@ viewQuantile (Root x n) = have (some x) (n .left)
 viewQuantile (None n) = have none (n .left)
 viewQuantile Spent = spent
 
--- ---- of one turn
+-- ---- what a step or an iteration ends with
 
--- a Newton step
+-- a Newton step's move, or none
 abbrev pub viewNewton : Newton → Option Float
 viewNewton (Move dx) = some dx
 viewNewton Refused = none
@@ -65,18 +66,18 @@ viewStepped (StepRoot x) = stop (some x)
 viewStepped Failed = stop none
 viewStepped (Onward x direction) = go (x, direction)
 
--- after a doubling that always ends in a bracket, or a halving
+-- after a halving, or a doubling of the distribution, which always end in a bracket
 abbrev pub viewWidening : Widening → Next Bracket Bracket
 viewWidening (Reached b) = stop b
 viewWidening (Wider b) = go b
 
--- after a doubling of the survival path
+-- after a doubling of the survival, which may end without a bracket
 abbrev pub viewDoubling : Doubling → Next Bracket (Option Bracket)
 viewDoubling (Enough b) = stop (some b)
 viewDoubling (More b) = go b
 viewDoubling Beyond = stop none
 
--- after a round
+-- after an iteration in a bracket
 abbrev pub viewIteration : Iteration → Next (Bracket × Float) Float
 viewIteration (Last x) = stop x
 viewIteration (Again b x) = go (b, x)

@@ -1,25 +1,30 @@
--- How many evaluations each search makes at most. Assumes nothing.
+-- How many evaluations each search makes at most: the bounds of REQUIREMENTS 10.5. Assumes nothing.
 use Prim.Native.Nat.{ℕ, _≤_}
 use native.Mathlib.Omega.{arith}
-use mathlib.Core.Bool.{Bool, true, false, cond}
 use lib.Ieee.{Float, neg, lt}
 use Rattle.arithmetic.specs.Ln.{ln}
+use Rattle.arithmetic.specs.Laws.Choices.{in-both}
 use Rattle.special_function.specs.NormalDistribution.{inverseNormCdf}
 use Rattle.explicit_black.specs.declared.bracket.Bracket.{Bracket}
-use Rattle.explicit_black.specs.Counted.{Option, some, none, Counted, atOnce, someOf, orElse}
+use Rattle.explicit_black.specs.Counted.{Option, some, none, Counted, orElse}
 use Rattle.explicit_black.specs.Loops.{go}
-use Rattle.explicit_black.specs.Curves.{inverseGaussianCdf, inverseGaussianSurvival, inverseGaussianQuantileInitialGuess, inverseGaussianQuantileInitialGuessFromZ, startingPoint}
-use Rattle.explicit_black.specs.Bracket.{doublingLoop, doublings, doubledFrom, bracketQuantileFromBelow, halvingLoop, halvings, halved, bracketQuantileFromAbove}
-use Rattle.explicit_black.specs.Newton.{newtonLoop, initialX, first, steps, inverseGaussianCdfStandardized, inverseGaussianNrstepStandardized, inverseGaussianQuantileActuar}
-use Rattle.explicit_black.specs.Quantile.{bracketAt, clamped, iterationLoop, iterations, inverseGaussianQuantileBracketed, solvable, filtered, inverseGaussianQuantile}
-use Rattle.explicit_black.specs.Survival.{survivalDoublingLoop, cappedFrom, survivalFromBelow, survivalHalvingLoop, survivalFromAbove, survivalBracketAt, survivalIterationLoop, survivalIterations, survivalIterationsIn, survivalSearch, inverseGaussianQuantileFromSurvival}
+use Rattle.explicit_black.specs.Curves.{inverseGaussianCdf, inverseGaussianSurvival}
+use Rattle.explicit_black.specs.Curves.{inverseGaussianQuantileInitialGuess, inverseGaussianQuantileInitialGuessFromZ, startingPoint}
+use Rattle.explicit_black.specs.Bracket.{doublingLoop, doublings, doubledFrom, bracketQuantileFromBelow}
+use Rattle.explicit_black.specs.Bracket.{halvingLoop, halvings, halved, bracketQuantileFromAbove}
+use Rattle.explicit_black.specs.Newton.{newtonLoop, initialX, first, steps}
+use Rattle.explicit_black.specs.Newton.{inverseGaussianCdfStandardized, inverseGaussianNrstepStandardized, inverseGaussianQuantileActuar}
+use Rattle.explicit_black.specs.Quantile.{bracketAt, clamped, iterationLoop, iterations, inverseGaussianQuantileBracketed}
+use Rattle.explicit_black.specs.Quantile.{solvable, filtered, inverseGaussianQuantile}
+use Rattle.explicit_black.specs.Survival.{survivalDoublingLoop, cappedFrom, survivalFromBelow, survivalHalvingLoop, survivalFromAbove}
+use Rattle.explicit_black.specs.Survival.{survivalBracketAt, survivalIterationLoop, survivalIterations, survivalIterationsIn, survivalSearch}
+use Rattle.explicit_black.specs.Survival.{inverseGaussianQuantileFromSurvival}
 use Rattle.explicit_black.specs.Laws.Counted.{count-le}
 
-either : {R : Type 0} (k : ℕ) (b : Bool) (c d : Counted R) → c .count ≤ k → d .count ≤ k → cond b c d .count ≤ k
-either k true c d h g = h
-either k false c d h g = g
+abbrev AtMost : {R : Type 0} → ℕ → Counted R → Type 0
+AtMost k c = c .count ≤ k
 
--- ---- the searches for a bracket: the doublings, and the halvings, of which there are fewer
+-- ---- the searches for a bracket: by doubling, and by halving, which makes fewer
 
 pub from-below-count : (x mu p : Float) → bracketQuantileFromBelow x mu p .count ≤ 2098
 unfolding bracketQuantileFromBelow doublings
@@ -29,30 +34,29 @@ pub from-above-count : (x mu p : Float) → bracketQuantileFromAbove x mu p .cou
 unfolding bracketQuantileFromAbove halvings
 from-above-count x mu p = count-le (halvingLoop mu p) halvings (halved x x)
 
-pub survival-from-below-count : (x mu p : Float) → survivalFromBelow x mu p .count ≤ 2098
+survival-from-below-count : (x mu p : Float) → survivalFromBelow x mu p .count ≤ 2098
 unfolding survivalFromBelow doublings
 survival-from-below-count x mu p = count-le (survivalDoublingLoop mu p) doublings (go (cappedFrom x))
 
-pub survival-from-above-count : (x mu p : Float) → survivalFromAbove x mu p .count ≤ 2045
+survival-from-above-count : (x mu p : Float) → survivalFromAbove x mu p .count ≤ 2045
 unfolding survivalFromAbove halvings
 survival-from-above-count x mu p = count-le (survivalHalvingLoop mu p) halvings (halved x x)
 
 bracket-count : (x v mu p : Float) → bracketAt x v mu p .count ≤ 2098
 unfolding bracketAt
-bracket-count x v mu p = either 2098 (lt v p) (bracketQuantileFromBelow x mu p) (bracketQuantileFromAbove x mu p) (from-below-count x mu p) (omega (arith, from-above-count x mu p))
+bracket-count x v mu p = in-both (AtMost 2098) (lt v p) (from-below-count x mu p) (omega (arith, from-above-count x mu p))
 
 survival-bracket-count : (x v mu p : Float) → survivalBracketAt x v mu p .count ≤ 2098
 unfolding survivalBracketAt
-survival-bracket-count x v mu p =
-    either 2098 (lt p v) (survivalFromBelow x mu p) (someOf (survivalFromAbove x mu p)) (survival-from-below-count x mu p) (omega (arith, survival-from-above-count x mu p))
+survival-bracket-count x v mu p = in-both (AtMost 2098) (lt p v) (survival-from-below-count x mu p) (omega (arith, survival-from-above-count x mu p))
 
--- ---- the rounds
+-- ---- the iterations in a bracket
 
-pub iterations-count : (mu p : Float) (b : Bracket) (x : Float) → iterations mu p b x .count ≤ 64
+iterations-count : (mu p : Float) (b : Bracket) (x : Float) → iterations mu p b x .count ≤ 64
 unfolding iterations
 iterations-count mu p b x = count-le (iterationLoop mu p) 64 (go (b, x))
 
-pub survival-iterations-count : (mu p : Float) (b : Bracket) (x : Float) → survivalIterations mu p b x .count ≤ 64
+survival-iterations-count : (mu p : Float) (b : Bracket) (x : Float) → survivalIterations mu p b x .count ≤ 64
 unfolding survivalIterations
 survival-iterations-count mu p b x = count-le (survivalIterationLoop mu p) 64 (go (b, x))
 
@@ -62,9 +66,10 @@ pub newton-count : (p mu : Float) → inverseGaussianQuantileActuar p mu .count 
 unfolding inverseGaussianQuantileActuar steps
 newton-count p mu =
     let x = initialX p (ln p) mu in
-    omega (arith, count-le (newtonLoop p (ln p) mu) 99 (first mu x (inverseGaussianNrstepStandardized x (inverseGaussianCdfStandardized x mu) p (ln p) mu)))
+    let step = inverseGaussianNrstepStandardized x (inverseGaussianCdfStandardized x mu) p (ln p) mu in
+    omega (arith, count-le (newtonLoop p (ln p) mu) 99 (first mu x step))
 
--- ---- the whole searches: one at the guess, the bracket and the rounds; and before them the steps
+-- ---- the whole searches: one evaluation at the starting point, the bracket and the iterations; and the Newton steps before them
 
 pub bracketed-count : (p mu : Float) → inverseGaussianQuantileBracketed p mu .count ≤ 2163
 unfolding inverseGaussianQuantileBracketed
@@ -83,7 +88,8 @@ unfolding inverseGaussianQuantile
 quantile-count p mu =
     let a = inverseGaussianQuantileActuar p mu in
     let b = inverseGaussianQuantileBracketed p mu in
-    either 2263 (solvable p mu) _ _ (omega (arith, newton-count p mu, else-count (filtered (a .result)) b 2163 (bracketed-count p mu))) (omega arith)
+    let both = else-count (filtered (a .result)) b 2163 (bracketed-count p mu) in
+    in-both (AtMost 2263) (solvable p mu) (omega (arith, newton-count p mu)) (omega arith)
 
 in-count : (mu p x : Float) (t : Option Bracket) → survivalIterationsIn mu p x t .count ≤ 64
 unfolding survivalIterationsIn
@@ -99,4 +105,4 @@ search-count p mu =
 
 pub from-survival-count : (p mu : Float) → inverseGaussianQuantileFromSurvival p mu .count ≤ 2163
 unfolding inverseGaussianQuantileFromSurvival
-from-survival-count p mu = either 2163 (solvable p mu) (survivalSearch p mu) (atOnce none) (search-count p mu) (omega arith)
+from-survival-count p mu = in-both (AtMost 2163) (solvable p mu) (search-count p mu) (omega arith)

@@ -1,4 +1,4 @@
--- A quote from the price on as one choice: tests 5 and 6 in their order, then the search. Assumes nothing.
+-- What follows from the price of a quote, as one choice: tests 5 and 6 in their order, then what follows from the time value. Assumes nothing.
 use mathlib.Core.Path.{_≡_, refl}
 use mathlib.Core.Bool.{Bool, true, false, cond}
 use lib.Ieee.{Float, le, eq}

@@ -5,11 +5,11 @@ use native.Mathlib.Nat.{zero-mul, mul-one, one-mul, add-zero, mul-pos, lt-irrefl
 use native.Mathlib.Omega.{arith}
 use mathlib.Core.Bool.{Bool, true, false, _&&_, _||_, Bool·beq, cond, or-true, false≢true}
 use lib.IntN.{pos, negsuc}
-use lib.Dec.{T, eqb, ltb, eqb→eq, ltb→lt, lt→ltb, leb·suc-zero, eqb·suc-zero}
+use lib.Dec.{T, not-T, eqb, ltb, eqb→eq, ltb→lt, lt→ltb, leb·suc-zero, eqb·suc-zero}
 use lib.Pow.{pow-pos}
 use lib.Ieee.{Float, nan, inf, fin, binary64, low, prec, emax, up, down, unlike, fits, le, lt, eq, sub, div, sum, round, below, level, ofBits}
 use lib.Ieee.Fits.{up-pos}
-use lib.Ieee.Bits.{is-true}
+use lib.Ieee.Bits.{is-true, is-false}
 use lib.Ieee.Exact.{HasValue, round-exact}
 use lib.Ieee.Scale.{finite}
 use lib.Ieee.Positive.{num, den, den-pos}
@@ -21,7 +21,8 @@ use Rattle.arithmetic.specs.Laws.Compare.{lt-is, eq-is}
 use Rattle.arithmetic.specs.Laws.ScaledRatios.{PositiveNormal, plus, num-above}
 use Rattle.bs_option_price.specs.BsOptionPrice.{negativeAbsLogMoneyness}
 use Rattle.explicit_black.specs.Counted.{atOnce}
-use Rattle.explicit_black.specs.Quote.{total, fromNormalisedPrice, impliedBlackVolatilityNormalised, firstRefusal, intrinsicValue, priceBound, fromTimeValue, fromPrice, fromQuote, impliedBlackVolatilityInput}
+use Rattle.explicit_black.specs.Quote.{total, fromNormalisedPrice, impliedBlackVolatilityNormalised, firstRefusal, intrinsicValue, priceBound}
+use Rattle.explicit_black.specs.Quote.{fromTimeValue, fromPrice, fromQuote, impliedBlackVolatilityInput}
 
 -- the two zeros
 abbrev pub zeroOf : Bool → Float
@@ -31,9 +32,8 @@ pub plusZero-is : plusZero ≡ zeroOf false
 unfolding ofBits
 plusZero-is = refl
 
-pub is-false : (b : Bool) → (T b → ⊥) → b ≡ false
-is-false true n = absurd (n tt)
-is-false false n = refl
+pub refuted : (b : Bool) → (T b → ⊥) → b ≡ false
+refuted b n = is-false b (not-T b n)
 
 -- ---- a zero that fits is one of the two
 no-power : (k : ℕ) → 2 ^ suc k ≡ 1 → ⊥
@@ -65,13 +65,13 @@ le-zero true nan = refl
 le-zero true (inf s) = refl
 le-zero true (fin s n d) = rw (zero-mul (down d)) (go s (n * up d * 1))
   where
-    twice : (b : Bool) → (b && b) ≡ (b && true)
-    twice true = refl
-    twice false = refl
+    and-self : (b : Bool) → (b && b) ≡ (b && true)
+    and-self true = refl
+    and-self false = refl
 
     go : (s : Bool) (a : ℕ) → (below s a true 0 || level s a true 0) ≡ (below s a false 0 || level s a false 0)
-    go false a = rw (leb·suc-zero a) (twice (eqb a 0))
-    go true a = rw (add-zero a, twice (eqb a 0))
+    go false a = rw (leb·suc-zero a) (and-self (eqb a 0))
+    go true a = rw (add-zero a, and-self (eqb a 0))
 
 above-zero : (a b : ℕ) → 0 < a → b ≡ 0 → a ≡ b → ⊥
 above-zero a b h e g = omega arith
@@ -87,15 +87,15 @@ bound-above s b o =
     let m = 0 * den b in
     let up : 0 < n = subst (λ (k : ℕ). 0 < k) (sym (mul-one (num b))) (num-above b o) in
     let l : lt b z ≡ false = lt-is b z (o .bounded) tt ∙ ap (λ (t : Bool). below t n s m) (plus b o) ∙ go s in
-    let apart : eqb n m ≡ false = is-false (eqb n m) (λ t. above-zero n m up (zero-mul (den b)) (eqb→eq n m t)) in
-    let q : eq b z ≡ false = eq-is b z (o .bounded) tt ∙ ap (λ (t : Bool). t && (Bool·beq (isSignMinus b) s || eqb n 0)) apart in
+    let differ : eqb n m ≡ false = refuted (eqb n m) (λ t. above-zero n m up (zero-mul (den b)) (eqb→eq n m t)) in
+    let q : eq b z ≡ false = eq-is b z (o .bounded) tt ∙ ap (λ (t : Bool). t && (Bool·beq (isSignMinus b) s || eqb n 0)) differ in
     rw (l, q)
   where
     go : (s : Bool) → below false (num b * 1) s (0 * den b) ≡ false
     go true = refl
-    go false = is-false (ltb (num b * 1) (0 * den b)) (λ t. not-under (num b * 1) (0 * den b) (zero-mul (den b)) (ltb→lt (num b * 1) (0 * den b) t))
+    go false = refuted (ltb (num b * 1) (0 * den b)) (λ t. not-under (num b * 1) (0 * den b) (zero-mul (den b)) (ltb→lt (num b * 1) (0 * den b) t))
 
--- ---- from a zero to below it
+-- ---- a zero less a value above 0
 both-ways : (a b : ℕ) → a ≡ 0 → a + b ≡ b - a
 both-ways a b e = omega arith
 
@@ -115,28 +115,25 @@ sub-zero true (inf t) h = refl
 sub-zero true (fin true n d) h = absurd h
 sub-zero true (fin false n d) h = sum-minus (0 * down d) (n * up d * 1) (1 * down d) (zero-mul (down d)) h
 
--- ---- a zero divided by the roots
+-- ---- a zero divided by the product of the roots
 record IsZero (v : Float) : Type 0 where
-  pub some : T (finite v)
-  pub none : num v ≡ 0
+  pub bounded : T (finite v)
+  pub vanishes : num v ≡ 0
+
+zero-is : (s : Bool) → IsZero (zeroOf s)
+zero-is s = record { bounded = tt; vanishes = refl }
 
 is-zero-of : (v : Float) (s : Bool) (a c : ℕ) → 0 < c → a ≡ 0 → HasValue v s a c → IsZero v
 is-zero-of v s a c C e h = record {
-  some = has-finite v s a c h;
-  none = eq-of-mul-eq-mul-right c C (num v) 0 (cross v s a c h ∙ ap (λ (z : ℕ). z * den v) e ∙ zero-mul (den v) ∙ sym (zero-mul c));
+  bounded = has-finite v s a c h;
+  vanishes = eq-of-mul-eq-mul-right c C (num v) 0 (cross v s a c h ∙ ap (λ (z : ℕ). z * den v) e ∙ zero-mul (den v) ∙ sym (zero-mul c));
 }
 
 round-is-zero : (s : Bool) (a c : ℕ) → 0 < c → a ≡ 0 → IsZero (round binary64 s a c)
 round-is-zero s a c C e =
-    let none : a * 2 ^ low binary64 ≡ 0 * c = ap (λ (z : ℕ). z * 2 ^ low binary64) e ∙ zero-mul (2 ^ low binary64) ∙ sym (zero-mul c) in
+    let vanishes : a * 2 ^ low binary64 ≡ 0 * c = ap (λ (z : ℕ). z * 2 ^ low binary64) e ∙ zero-mul (2 ^ low binary64) ∙ sym (zero-mul c) in
     is-zero-of (round binary64 s a c) s a c C e
-    (round-exact binary64 s a c 0 0 C (pow-pos (prec binary64)) (pow-pos (low binary64 + suc (emax binary64))) none)
-
-more : (a b : ℕ) → a ≡ 0 → 0 < b → a < b
-more a b e h = omega arith
-
-more' : (a b : ℕ) → 0 < b → 0 < a + b
-more' a b h = omega arith
+    (round-exact binary64 s a c 0 0 C (pow-pos (prec binary64)) (pow-pos (low binary64 + suc (emax binary64))) vanishes)
 
 or-left : (a b : Bool) → a ≡ true → (a || b) ≡ true
 or-left true b e = refl
@@ -148,7 +145,7 @@ or-right false b e = e
 
 zero-low : (v : Float) → IsZero v → le v minPositive ≡ true
 unfolding le ofBits
-zero-low v n = or-left (lt v minPositive) (eq v minPositive) (lt-is v minPositive (n .some) tt ∙ go (isSignMinus v))
+zero-low v n = or-left (lt v minPositive) (eq v minPositive) (lt-is v minPositive (n .bounded) tt ∙ go (isSignMinus v))
   where
     a : ℕ
     a = num v * den minPositive
@@ -156,33 +153,38 @@ zero-low v n = or-left (lt v minPositive) (eq v minPositive) (lt-is v minPositiv
     b : ℕ
     b = num minPositive * den v
 
-    none : a ≡ 0
-    none = ap (λ (z : ℕ). z * den minPositive) (n .none) ∙ zero-mul (den minPositive)
+    vanishes : a ≡ 0
+    vanishes = ap (λ (z : ℕ). z * den minPositive) (n .vanishes) ∙ zero-mul (den minPositive)
 
-    tall : 0 < b
-    tall = mul-pos (pow-pos 0) (den-pos v)
+    above : 0 < b
+    above = mul-pos (pow-pos 0) (den-pos v)
+
+    below-bound : (a b : ℕ) → a ≡ 0 → 0 < b → (a < b) × (0 < a + b)
+    below-bound a b e h = (omega arith, omega arith)
 
     go : (s : Bool) → below s a false b ≡ true
-    go false = is-true (ltb a b) (lt→ltb a b (more a b none tall))
-    go true = is-true (ltb 0 (a + b)) (lt→ltb 0 (a + b) (more' a b tall))
+    go false = is-true (ltb a b) (lt→ltb a b (below-bound a b vanishes above .0))
+    go true = is-true (ltb 0 (a + b)) (lt→ltb 0 (a + b) (below-bound a b vanishes above .1))
 
 zero-not-below : (v : Float) → IsZero v → le plusZero v ≡ true
 unfolding le ofBits
-zero-not-below v n = or-right (lt plusZero v) (eq plusZero v) (eq-is plusZero v tt (n .some) ∙ rw (zero-mul (den v), n .none) (or-true (Bool·beq false (isSignMinus v))))
+zero-not-below v n =
+    or-right (lt plusZero v) (eq plusZero v)
+    (eq-is plusZero v tt (n .bounded) ∙ rw (zero-mul (den v), n .vanishes) (or-true (Bool·beq false (isSignMinus v))))
 
--- ---- the answer
+-- ---- the total is 0
 zero-from-time-value : (x v : Float) → IsZero v → fromTimeValue x v ≡ atOnce (total plusZero)
 unfolding fromTimeValue
 zero-from-time-value x v n = rw (zero-low v n, zero-not-below v n)
 
--- ±0 / r is NaN for both signs, or a zero for both
+-- ±0 / r is NaN for both signs of the zero, or a zero for both
 zero-same : (x v w : Float) → IsZero v → IsZero w → fromTimeValue x v ≡ fromTimeValue x w
 zero-same x v w n m = zero-from-time-value x v n ∙ sym (zero-from-time-value x w m)
 
 zero-over : (s : Bool) (x r : Float) → fromTimeValue x (zeroOf s ⊘ r) ≡ fromTimeValue x (zeroOf false ⊘ r)
 unfolding div
 zero-over s x nan = refl
-zero-over s x (inf t) = zero-same x (zeroOf (unlike s t)) (zeroOf (unlike false t)) (record { some = tt; none = refl }) (record { some = tt; none = refl })
+zero-over s x (inf t) = zero-same x (zeroOf (unlike s t)) (zeroOf (unlike false t)) (zero-is (unlike s t)) (zero-is (unlike false t))
 zero-over s x (fin t zero d) = refl
 zero-over s x (fin t (suc n) d) = rw (eqb·suc-zero n) (zero-same x _ _ (quotient s) (quotient false))
   where

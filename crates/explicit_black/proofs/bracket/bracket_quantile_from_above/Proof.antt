@@ -1,12 +1,13 @@
--- `bracket::bracket_quantile_from_above` meets its contract. The invariant: what the definition gives for what was allowed is what it gives from
--- here for what is left; and from here it ends within its turns. The measure is what is left. Assumes nothing.
+-- `bracket::bracket_quantile_from_above` meets its contract. The invariant: what the definition gives for what was allowed is what it
+-- gives from here for what is left; and from here it ends within its turns. The measure is what is left. Assumes nothing.
 use borrow.Author.Needs.{needs}
-use mathlib.Core.Path.{sym, ap, _∙_}
+use mathlib.Core.Path.{ap}
 use Rattle.explicit_black.specs.Counted.{limited}
 use Rattle.explicit_black.specs.Bracket.{halvings, halvingLoop, bracketQuantileFromAbove}
 use Rattle.explicit_black.specs.Internal.Searches.{viewEvaluation, viewWidening}
-use Rattle.explicit_black.specs.Laws.Counted.{Carried, carried, carried-at, carried-turn, carried-spent, carried-stop, some-spent, some-have, fewer}
+use Rattle.explicit_black.specs.Laws.Counted.{Carried, carried, carried-at, carried-spent, some-spent, some-have, fewer}
 use Rattle.explicit_black.proofs.HalvingEnds.{ends-above}
+use Rattle.explicit_black.proofs.Turns.{seen, told, turned, found}
 use Rattle.explicit_black.proofs.bracket.bracket_quantile_from_above.Statement.{statement}
 use Rattle.explicit_black.proofs.bracket.bracket_quantile_from_above.Tie as tie
 
@@ -25,7 +26,9 @@ loop-holds c =
     (carried (ends-above (start .args .mu) (start .args .probability) (start .args .initial) (start .pre) (start .good .0 .1)))
 
 returns : tie.Need-returns Inv-loop μ-loop
-returns c = some-have _ _ _ _ (sym (carried-stop (carried-at (c .before .before .before .loop .inv) (ap viewWidening (c .before .trial .given .1)))))
+returns c =
+    let reached = c .before in
+    some-have _ _ _ _ (found (reached .before .before .loop .inv) (ap viewWidening (reached .trial .given .1)))
 
 returns-2 : tie.Need-returns-2 Inv-loop μ-loop
 returns-2 c =
@@ -33,20 +36,20 @@ returns-2 c =
     let at-trial = at-cdf .before .before in
     some-spent _ _
     (carried-spent _ (carried-at (at-trial .before .before .loop .inv) (ap viewWidening (at-trial .trial2 .given .1)))
-    (sym (ap viewEvaluation (c .enum-told .given .1)) ∙ at-cdf .inverse-gaussian-cdf .ensures))
+    (seen viewEvaluation (at-cdf .inverse-gaussian-cdf .ensures) (c .enum-told .given .1)))
 
 loop-less : tie.Need-loop-less Inv-loop μ-loop
 loop-less c =
     let at-value = c .before .before in
-    fewer _ (sym (ap viewEvaluation (at-value .cdf .given .1)) ∙ at-value .before .before .inverse-gaussian-cdf .ensures)
+    fewer _ (seen viewEvaluation (at-value .before .before .inverse-gaussian-cdf .ensures) (at-value .cdf .given .1))
 
 loop-again : tie.Need-loop-again Inv-loop μ-loop
 loop-again c =
     let at-value = c .before .before in
     let at-cdf = at-value .before .before in
     let at-trial = at-cdf .before .before in
-    carried-turn _ (carried-at (at-trial .before .before .loop .inv) (ap viewWidening (at-trial .trial2 .given .1)))
-    (sym (ap viewEvaluation (at-value .cdf .given .1)) ∙ at-cdf .inverse-gaussian-cdf .ensures) (sym (c .lowered .ensures))
+    turned (carried-at (at-trial .before .before .loop .inv) (ap viewWidening (at-trial .trial2 .given .1)))
+    (told (seen viewEvaluation (at-cdf .inverse-gaussian-cdf .ensures) (at-value .cdf .given .1))) (c .lowered .ensures) .carried
 
 pub bracket-quantile-from-above-spec : {M : Type 1} → statement M
 bracket-quantile-from-above-spec =

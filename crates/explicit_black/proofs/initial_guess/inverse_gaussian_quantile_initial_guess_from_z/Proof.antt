@@ -7,11 +7,15 @@ use Rattle.explicit_black.proofs.initial_guess.inverse_gaussian_quantil
 
 returns : tie.Need-returns
 unfolding inverseGaussianQuantileInitialGuessFromZ
-returns c = rw (c .before .if1 .taken, c .mul-add2 .ensures, c .before .before .sqrt .ensures, c .before .before .before .mul-add .ensures)
+returns c =
+    let at-sqrt = c .before .before in
+    rw (c .before .if1 .taken, c .mul-add2 .ensures, at-sqrt .sqrt .ensures, at-sqrt .before .mul-add .ensures)
 
 returns-2 : tie.Need-returns-2
 unfolding inverseGaussianQuantileInitialGuessFromZ
-returns-2 c = rw (c .if1 .left, c .before .sqrt .ensures, c .before .before .mul-add .ensures)
+returns-2 c =
+    let at-sqrt = c .before in
+    rw (c .if1 .left, at-sqrt .sqrt .ensures, at-sqrt .before .mul-add .ensures)
 
 pub inverse-gaussian-quantile-initial-guess-from-z-spec : {M : Type 1} → statement M
 inverse-gaussian-quantile-initial-guess-from-z-spec =

@@ -6,11 +6,15 @@ use Rattle.explicit_black.proofs.newton.after_move.Tie as tie
 
 returns : tie.Need-returns
 unfolding afterMove
-returns c = rw (sym (c .before .before .before .is-finite-positive .ensures) ∙ c .before .before .if1 .taken, sym (c .before .is-converged .ensures) ∙ c .if2 .taken)
+returns c =
+    let at-positive = c .before .before in
+    rw (sym (at-positive .before .is-finite-positive .ensures) ∙ at-positive .if1 .taken, sym (c .before .is-converged .ensures) ∙ c .if2 .taken)
 
 returns-2 : tie.Need-returns-2
 unfolding afterMove
-returns-2 c = rw (sym (c .before .before .before .is-finite-positive .ensures) ∙ c .before .before .if1 .taken, sym (c .before .is-converged .ensures) ∙ c .if2 .left)
+returns-2 c =
+    let at-positive = c .before .before in
+    rw (sym (at-positive .before .is-finite-positive .ensures) ∙ at-positive .if1 .taken, sym (c .before .is-converged .ensures) ∙ c .if2 .left)
 
 returns-3 : tie.Need-returns-3
 unfolding afterMove

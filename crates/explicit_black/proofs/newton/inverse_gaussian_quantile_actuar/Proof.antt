@@ -1,7 +1,7 @@
 -- `newton::inverse_gaussian_quantile_actuar` meets its contract. Assumes nothing.
 use borrow.Author.Needs.{needs}
-use mathlib.Core.Path.{sym, ap, _∙_}
 use Rattle.explicit_black.specs.Internal.Searches.{viewEvaluation}
+use Rattle.explicit_black.proofs.Turns.{seen, told}
 use Rattle.explicit_black.proofs.Searches.{no-step, from-step}
 use Rattle.explicit_black.proofs.newton.inverse_gaussian_quantile_actuar.Statement.{
   statement,
@@ -9,7 +9,7 @@ use Rattle.explicit_black.proofs.newton.inverse_gaussian_quantile_actua
 use Rattle.explicit_black.proofs.newton.inverse_gaussian_quantile_actuar.Tie as tie
 
 returns : tie.Need-returns
-returns c = no-step _ _ _ _ (sym (ap viewEvaluation (c .enum-told .given .1)) ∙ c .before .before .inverse-gaussian-cdf .ensures)
+returns c = no-step _ _ _ _ (seen viewEvaluation (c .before .before .inverse-gaussian-cdf .ensures) (c .enum-told .given .1))
 
 returns-2 : tie.Need-returns-2
 returns-2 c =
@@ -18,8 +18,8 @@ returns-2 c =
     let at-value = at-numerator .before .before in
     let at-cdf = at-value .before .before in
     let at-start = at-cdf .before in
-    from-step _ _ _ _ _ _ _ _ _ _ _ _ (at-start .before .ln .ensures) (at-start .initial-x .ensures)
-    (sym (ap viewEvaluation (at-value .cdf .given .1)) ∙ at-cdf .inverse-gaussian-cdf .ensures)
+    from-step _ _ (at-start .before .ln .ensures) (at-start .initial-x .ensures)
+    (told (seen viewEvaluation (at-cdf .inverse-gaussian-cdf .ensures) (at-value .cdf .given .1)))
     (at-numerator .numerator .ensures) (at-first .before .nrstep .ensures) (at-first .first .ensures) (c .steps .ensures)
 
 pub inverse-gaussian-quantile-actuar-spec : {M : Type 1} → statement M

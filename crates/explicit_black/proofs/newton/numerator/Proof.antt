@@ -5,11 +5,25 @@ use Rattle.explicit_black.proofs.newton.numerator.Tie as tie
 
 returns : tie.Need-returns
 unfolding numerator
-returns c = rw (c .before .before .before .before .before .if1 .taken, ← c .before .before .before .before .ln .ensures, ← c .before .before .before .abs .ensures, c .before .before .if2 .taken, c .exp .ensures, c .before .ln-1p .ensures)
+returns c =
+    let at-close = c .before .before in
+    let at-abs = at-close .before in
+    let at-ln = at-abs .before in
+    rw (
+      at-ln .before .if1 .taken,
+      ← at-ln .ln .ensures,
+      ← at-abs .abs .ensures,
+      at-close .if2 .taken,
+      c .exp .ensures,
+      c .before .ln-1p .ensures,
+    )
 
 returns-2 : tie.Need-returns-2
 unfolding numerator
-returns-2 c = rw (c .before .before .before .if1 .taken, ← c .before .before .ln .ensures, ← c .before .abs .ensures, c .if2 .left)
+returns-2 c =
+    let at-abs = c .before in
+    let at-ln = at-abs .before in
+    rw (at-ln .before .if1 .taken, ← at-ln .ln .ensures, ← at-abs .abs .ensures, c .if2 .left)
 
 returns-3 : tie.Need-returns-3
 unfolding numerator

@@ -9,7 +9,17 @@ returns c = rw (c .before .if1 .taken, c .inverse-norm-cdf .ensures)
 
 returns-2 : tie.Need-returns-2
 unfolding seed
-returns-2 c = rw (c .before .before .before .before .if1 .left, c .before .before .if2 .taken, c .max .ensures, c .before .inverse-gaussian-quantile-initial-guess .ensures, c .before .before .before .inverse-gaussian-mode-standardized .ensures)
+returns-2 c =
+    let at-guess = c .before in
+    let at-test = at-guess .before in
+    let at-mode = at-test .before in
+    rw (
+      at-mode .before .if1 .left,
+      at-test .if2 .taken,
+      c .max .ensures,
+      at-guess .inverse-gaussian-quantile-initial-guess .ensures,
+      at-mode .inverse-gaussian-mode-standardized .ensures,
+    )
 
 returns-3 : tie.Need-returns-3
 unfolding seed

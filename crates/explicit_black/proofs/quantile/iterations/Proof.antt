@@ -1,21 +1,28 @@
--- `quantile::iterations` meets its contract. The invariant: what the definition gives for what was allowed is what it gives from here for what is left.
--- The measure is the turns that are left. Assumes nothing.
+-- `quantile::iterations` meets its contract. The invariant: what the definition gives for what was allowed is what it gives
+-- from here for what is left, in the iterations that are left. The measure is the iterations that are left. Assumes nothing.
 use borrow.Author.Needs.{needs}
-use mathlib.Core.Path.{refl, sym, ap, _∙_}
-use Prim.Native.Nat.{_+_, _-_, _≤_}
+use mathlib.Core.Path.{refl, sym, ap}
+use Prim.Native.Nat.{ℕ, _+_, _-_, _≤_}
 use native.Mathlib.Omega.{arith}
-use Rattle.explicit_black.specs.Counted.{limited}
+use lib.Ieee.{Float}
+use Rattle.explicit_black.specs.declared.bracket.Bracket.{Bracket}
+use Rattle.explicit_black.specs.Counted.{Metered, limited}
 use Rattle.explicit_black.specs.Loops.{go}
-use Rattle.explicit_black.specs.Quantile.{iterationLoop, iterations}
+use Rattle.explicit_black.specs.Curves.{inverseGaussianCdf}
+use Rattle.explicit_black.specs.Quantile.{iteration, iterationLoop, iterations}
 use Rattle.explicit_black.specs.Internal.Searches.{viewEvaluation, viewIteration}
-use Rattle.explicit_black.specs.Laws.Counted.{Left, left-spent, left-stop, left-out, some-spent, some-have}
-use Rattle.explicit_black.proofs.Searches.{iteration-turn}
+use Rattle.explicit_black.specs.Laws.Counted.{Left, left-at, left-out, some-spent, some-have}
+use Rattle.explicit_black.proofs.Turns.{seen, told, iterated, left-found, left-no-value}
 use Rattle.explicit_black.proofs.quantile.iterations.Statement.{statement}
 use Rattle.explicit_black.proofs.quantile.iterations.Tie as tie
 
+-- what the whole search gives where so many evaluations are allowed
+abbrev whole : Float → Float → Bracket → Float → ℕ → Metered Float
+whole mu p start guess allowed = limited allowed (iterations mu p start guess)
+
 abbrev Inv-loop : tie.InvT-loop
 Inv-loop guess mu probability bracket₀ x₀ left₀ counter₀ bracket x left counter =
-    Left (iterationLoop mu probability) (64 - counter) (limited (left₀ .left) (iterations mu probability bracket₀ x₀)) (left .left) (go (bracket, x))
+    Left (iterationLoop mu probability) (64 - counter) (whole mu probability bracket₀ x₀ (left₀ .left)) (left .left) (go (bracket, x))
     × (counter ≤ 64)
 
 abbrev μ-loop : tie.MeasureT-loop
@@ -25,40 +32,42 @@ loop-holds : tie.Need-loop-holds Inv-loop μ-loop
 unfolding iterations
 loop-holds c = (record { same = refl }, omega arith)
 
+-- one iteration, from the loop's bracket and point to what `iteration` makes of the value there
+turn : (c : tie.After-iteration Inv-loop μ-loop) →
+    let at-value = c .before .before in
+    let at-cdf = at-value .before .before in
+    let at-loop = at-cdf .before .before in
+    let args = at-loop .before .args in
+    Left (iterationLoop (args .mu) (args .probability)) (64 - (at-loop .loop .counter + 1))
+    (whole (args .mu) (args .probability) (args .start) (args .guess) (args .allowed .left))
+    (at-value .cdf .given .0 .1 .1 .0 .left) (viewIteration (c .iteration .result))
+turn c =
+    let at-value = c .before .before in
+    let at-cdf = at-value .before .before in
+    iterated inverseGaussianCdf iteration (at-cdf .before .before .loop .inv .0) (omega arith)
+    (told (seen viewEvaluation (at-cdf .inverse-gaussian-cdf .ensures) (at-value .cdf .given .1)))
+    refl (c .iteration .ensures)
+
 returns : tie.Need-returns Inv-loop μ-loop
 returns c =
     let at-cdf = c .before .before in
-    let at-loop = at-cdf .before .before in
-    some-spent _ _
-    (left-spent (64 - (at-loop .loop .counter + 1)) _ (at-loop .loop .inv .0) (omega arith)
-    (sym (ap viewEvaluation (c .enum-told .given .1)) ∙ at-cdf .inverse-gaussian-cdf .ensures))
+    let no-value = seen viewEvaluation (at-cdf .inverse-gaussian-cdf .ensures) (c .enum-told .given .1) in
+    some-spent _ _ (left-no-value _ (at-cdf .before .before .loop .inv .0) (omega arith) no-value)
 
 returns-2 : tie.Need-returns-2 Inv-loop μ-loop
 returns-2 c =
-    let at-round = c .before .before .before in
-    let at-value = at-round .before .before in
-    let at-cdf = at-value .before .before in
-    let at-loop = at-cdf .before .before in
-    let n : Left _ (64 - (at-loop .loop .counter + 1)) _ _ _ =
-    iteration-turn _ _ _ _ (at-loop .loop .inv .0) (omega arith)
-    (sym (ap viewEvaluation (at-value .cdf .given .1)) ∙ at-cdf .inverse-gaussian-cdf .ensures) (at-round .iteration .ensures) (ap viewIteration (c .before .root .given .1)) in
-    some-have _ _ _ _ (sym (left-stop n))
+    let ended = c .before in
+    some-have _ _ _ _ (left-found (turn (ended .before .before)) (ap viewIteration (ended .root .given .1)))
 
 loop-again : tie.Need-loop-again Inv-loop μ-loop
 loop-again c =
-    let at-round = c .before .before .before in
-    let at-value = at-round .before .before in
-    let at-cdf = at-value .before .before in
-    let at-loop = at-cdf .before .before in (
-      iteration-turn _ _ _ _ (at-loop .loop .inv .0) (omega arith)
-          (sym (ap viewEvaluation (at-value .cdf .given .1)) ∙ at-cdf .inverse-gaussian-cdf .ensures) (at-round .iteration .ensures) (ap viewIteration (c .before .b .given .1)),
-      omega arith,
-    )
+    let again = c .before in
+    (left-at (turn (again .before .before)) (ap viewIteration (again .b .given .1)), omega arith)
 
 returns-3 : tie.Need-returns-3 Inv-loop μ-loop
 returns-3 c =
-    let i = c .before .before .loop .inv in
-    rw (c .bracket-midpoint .ensures) (some-have _ _ _ _ (sym (left-out (i .0) (omega arith))))
+    let at-loop = c .before .before in
+    rw (c .bracket-midpoint .ensures) (some-have _ _ _ _ (sym (left-out (at-loop .loop .inv .0) (omega arith))))
 
 pub iterations-spec : {M : Type 1} → statement M
 iterations-spec =

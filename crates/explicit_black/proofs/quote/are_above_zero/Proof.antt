@@ -1,4 +1,4 @@
--- `are_above_zero` meets its contract: each return by the tests that led there. Assumes nothing.
+-- `quote::are_above_zero` meets its contract: each return by the tests that led there. Assumes nothing.
 use Rattle.explicit_black.proofs.quote.are_above_zero.Statement.{statement}
 use Rattle.explicit_black.proofs.quote.are_above_zero.Tie as tie
 

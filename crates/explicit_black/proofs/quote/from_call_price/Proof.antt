@@ -1,7 +1,7 @@
--- `from_call_price` meets its contract: each return by the tests that led there. Assumes nothing.
+-- `quote::from_call_price` meets its contract: each return by the tests that led there. Assumes nothing.
 use Rattle.explicit_black.proofs.Allowed.{limited-searched}
 use Rattle.explicit_black.specs.Quote.{fromCallPrice}
-use Rattle.explicit_black.specs.Counted.{limited}
+use Rattle.explicit_black.specs.Laws.Counted.{limited-now}
 use lib.Ieee.{nanBits}
 use Rattle.explicit_black.proofs.quote.from_call_price.Statement.{statement}
 use Rattle.explicit_black.proofs.quote.from_call_price.Tie as tie
@@ -15,16 +15,20 @@ unfolding nanBits
 float-from-bits-t7 c = tt
 
 returns-2 : tie.Need-returns-2
-unfolding limited fromCallPrice
-returns-2 c = rw (c .before .if1 .left, c .if2 .taken)
+unfolding fromCallPrice
+returns-2 c = rw (c .before .if1 .left, c .if2 .taken, limited-now)
 
 returns-3 : tie.Need-returns-3
-unfolding limited fromCallPrice
-returns-3 c = rw (c .before .before .if1 .left, c .before .if2 .left, c .if3 .taken)
+unfolding fromCallPrice
+returns-3 c = rw (c .before .before .if1 .left, c .before .if2 .left, c .if3 .taken, limited-now)
 
 returns-4 : tie.Need-returns-4
 unfolding fromCallPrice
-returns-4 c = rw (c .before .before .before .before .if1 .left, c .before .before .before .if2 .left, c .before .before .if3 .left, limited-searched, ← c .before .inverse-gaussian-quantile .ensures) (c .total-at2 .ensures)
+returns-4 c =
+    let at-one = c .before .before in
+    let at-zero = at-one .before in
+    rw (at-zero .before .if1 .left, at-zero .if2 .left, at-one .if3 .left, limited-searched, ← c .before .inverse-gaussian-quantile .ensures)
+    (c .total-at2 .ensures)
 
 pub from-call-price-spec : {M : Type 1} → statement M
 from-call-price-spec =

@@ -1,17 +1,25 @@
--- `from_quote` meets its contract: each return by the tests that led there. Assumes nothing.
+-- `quote::from_quote` meets its contract: each return by the tests that led there. Assumes nothing.
 use Rattle.explicit_black.specs.Quote.{fromQuote}
-use Rattle.explicit_black.specs.Counted.{limited}
+use Rattle.explicit_black.specs.Laws.Counted.{limited-now}
 use borrow.Author.Tests.{eq-eqb, ne-eqb}
 use Rattle.explicit_black.proofs.quote.from_quote.Statement.{statement}
 use Rattle.explicit_black.proofs.quote.from_quote.Tie as tie
 
 returns : tie.Need-returns
-unfolding limited fromQuote
-returns c = rw (← c .before .first-refusal .ensures, ne-eqb _ _ (c .if1 .taken))
+unfolding fromQuote
+returns c = rw (← c .before .first-refusal .ensures, ne-eqb _ _ (c .if1 .taken), limited-now)
 
 returns-2 : tie.Need-returns-2
 unfolding fromQuote
-returns-2 c = rw (← c .before .before .before .before .first-refusal .ensures, eq-eqb _ _ (c .before .before .before .if1 .left), ← c .before .before .intrinsic-value .ensures, ← c .before .price-bound .ensures) (c .from-price .ensures)
+returns-2 c =
+    let at-intrinsic = c .before .before in
+    let at-test = at-intrinsic .before in
+    rw (
+      ← at-test .before .first-refusal .ensures,
+      eq-eqb _ _ (at-test .if1 .left),
+      ← at-intrinsic .intrinsic-value .ensures,
+      ← c .before .price-bound .ensures,
+    ) (c .from-price .ensures)
 
 pub from-quote-spec : {M : Type 1} → statement M
 from-quote-spec = tie.close (tie.spec (λ c κs. tt) returns (λ c κs. tt) (λ c κs. tt) (λ c κs. tt) returns-2)

@@ -1,4 +1,4 @@
--- `from_roots` meets its contract. Assumes nothing.
+-- `quote::from_roots` meets its contract. Assumes nothing.
 use Rattle.explicit_black.proofs.quote.from_roots.Statement.{statement}
 use Rattle.explicit_black.proofs.quote.from_roots.Tie as tie
 

@@ -1,16 +1,16 @@
--- `fromTimeValue` meets its contract: each return by the tests that led there. Assumes nothing.
+-- `quote::from_time_value` meets its contract: each return by the tests that led there. Assumes nothing.
 use Rattle.explicit_black.specs.Quote.{fromTimeValue}
-use Rattle.explicit_black.specs.Counted.{limited}
+use Rattle.explicit_black.specs.Laws.Counted.{limited-now}
 use Rattle.explicit_black.proofs.quote.from_time_value.Statement.{statement}
 use Rattle.explicit_black.proofs.quote.from_time_value.Tie as tie
 
 returns : tie.Need-returns
-unfolding limited fromTimeValue
-returns c = rw (c .before .if1 .taken, c .if2 .taken)
+unfolding fromTimeValue
+returns c = rw (c .before .if1 .taken, c .if2 .taken, limited-now)
 
 returns-2 : tie.Need-returns-2
-unfolding limited fromTimeValue
-returns-2 c = rw (c .before .if1 .taken, c .if2 .left)
+unfolding fromTimeValue
+returns-2 c = rw (c .before .if1 .taken, c .if2 .left, limited-now)
 
 returns-3 : tie.Need-returns-3
 unfolding fromTimeValue

@@ -1,4 +1,4 @@
--- `implied_black_volatility_input` meets its contract: the reply of a quote that is allowed as many evaluations as any can make. Assumes nothing.
+-- `quote::implied_black_volatility_input` meets its contract: the reply of a quote that is allowed as many evaluations as any can make. Assumes nothing.
 use Rattle.explicit_black.specs.Laws.Quote.{input-count}
 use Rattle.explicit_black.proofs.Allowed.{enough-within}
 use Rattle.explicit_black.specs.Quote.{impliedBlackVolatilityInput}

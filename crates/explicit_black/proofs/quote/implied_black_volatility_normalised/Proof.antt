@@ -1,4 +1,4 @@
--- `implied_black_volatility_normalised` meets its contract: the reply of a quote that is allowed as many evaluations as any can make. Assumes nothing.
+-- `quote::implied_black_volatility_normalised` meets its contract: the reply of a quote that is allowed as many evaluations as any can make. Assumes nothing.
 use Rattle.explicit_black.specs.Laws.Quote.{normalised-count}
 use Rattle.explicit_black.proofs.Allowed.{enough-within, root-one}
 use Rattle.arithmetic.specs.Laws.Numbers.{denied, affirmed}

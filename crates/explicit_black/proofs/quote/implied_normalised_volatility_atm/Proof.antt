@@ -1,4 +1,4 @@
--- `implied_normalised_volatility_atm` meets its contract. Assumes nothing.
+-- `quote::implied_normalised_volatility_atm` meets its contract. Assumes nothing.
 use Rattle.explicit_black.specs.Quote.{impliedNormalisedVolatilityAtm}
 use Rattle.explicit_black.proofs.quote.implied_normalised_volatility_atm.Statement.{
   statement,

@@ -1,4 +1,4 @@
--- `intrinsic_value` meets its contract: each return by the tests that led there. Assumes nothing.
+-- `quote::intrinsic_value` meets its contract: each return by the tests that led there. Assumes nothing.
 use borrow.Author.Tests.{eq-eqb, ne-eqb}
 use Rattle.explicit_black.proofs.quote.intrinsic_value.Statement.{statement}
 use Rattle.explicit_black.proofs.quote.intrinsic_value.Tie as tie

@@ -1,4 +1,4 @@
--- `normalised_time_value` meets its contract: each return by the tests that led there. Assumes nothing.
+-- `quote::normalised_time_value` meets its contract: each return by the tests that led there. Assumes nothing.
 use Rattle.explicit_black.proofs.quote.normalised_time_value.Statement.{statement}
 use Rattle.explicit_black.proofs.quote.normalised_time_value.Tie as tie
 

@@ -1,4 +1,4 @@
--- `price_bound` meets its contract: each return by the tests that led there. Assumes nothing.
+-- `quote::price_bound` meets its contract: each return by the tests that led there. Assumes nothing.
 use borrow.Author.Tests.{eq-eqb, ne-eqb}
 use Rattle.explicit_black.proofs.quote.price_bound.Statement.{statement}
 use Rattle.explicit_black.proofs.quote.price_bound.Tie as tie

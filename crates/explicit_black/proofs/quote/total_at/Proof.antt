@@ -1,4 +1,4 @@
--- `total_at` meets its contract: each return by the tests that led there. Assumes nothing.
+-- `quote::total_at` meets its contract: each return by the tests that led there. Assumes nothing.
 use Rattle.explicit_black.specs.Quote.{totalAt}
 use mathlib.Core.Path.{sym, _∙_}
 use borrow.Author.Needs.{needs}
@@ -7,11 +7,15 @@ use Rattle.explicit_black.proofs.quote.total_at.Tie as tie
 
 returns : tie.Need-returns
 unfolding totalAt
-returns c = rw (c .before .before .before .before .root .given .1, sym (c .before .before .is-finite-positive .ensures) ∙ c .before .if1 .taken, c .sqrt .ensures)
+returns c =
+    let at-test = c .before .before in
+    rw (at-test .before .before .root .given .1, sym (at-test .is-finite-positive .ensures) ∙ c .before .if1 .taken, c .sqrt .ensures)
 
 returns-2 : tie.Need-returns-2
 unfolding totalAt
-returns-2 c = rw (c .before .before .before .root .given .1, sym (c .before .is-finite-positive .ensures) ∙ c .if1 .left)
+returns-2 c =
+    let at-test = c .before in
+    rw (at-test .before .before .root .given .1, sym (at-test .is-finite-positive .ensures) ∙ c .if1 .left)
 
 returns-3 : tie.Need-returns-3
 unfolding totalAt

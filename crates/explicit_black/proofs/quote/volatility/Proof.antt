@@ -1,4 +1,4 @@
--- `volatility` meets its contract: each return by the tests that led there. Assumes nothing.
+-- `quote::volatility` meets its contract: each return by the tests that led there. Assumes nothing.
 use Rattle.explicit_black.specs.Quote.{volatility}
 use Rattle.explicit_black.proofs.quote.volatility.Statement.{statement}
 use Rattle.explicit_black.proofs.quote.volatility.Tie as tie

@@ -1,13 +1,14 @@
--- `survival::from_above` meets its contract. The invariant: what the definition gives for what was allowed is what it gives from
--- here for what is left; and from here it ends within its turns. The measure is what is left. Assumes nothing.
+-- `survival::from_above` meets its contract. The invariant: what the definition gives for what was allowed is what it
+-- gives from here for what is left; and from here it ends within its turns. The measure is what is left. Assumes nothing.
 use borrow.Author.Needs.{needs}
-use mathlib.Core.Path.{sym, ap, _∙_}
+use mathlib.Core.Path.{ap}
 use Rattle.explicit_black.specs.Counted.{limited}
 use Rattle.explicit_black.specs.Bracket.{halvings}
 use Rattle.explicit_black.specs.Survival.{survivalHalvingLoop, survivalFromAbove}
 use Rattle.explicit_black.specs.Internal.Searches.{viewSurvivalEvaluation, viewWidening}
-use Rattle.explicit_black.specs.Laws.Counted.{Carried, carried, carried-at, carried-turn, carried-spent, carried-stop, some-spent, some-have, fewer}
+use Rattle.explicit_black.specs.Laws.Counted.{Carried, carried, carried-at, carried-spent, some-spent, some-have, fewer}
 use Rattle.explicit_black.proofs.HalvingEnds.{survival-ends-above}
+use Rattle.explicit_black.proofs.Turns.{seen, told, turned, found}
 use Rattle.explicit_black.proofs.survival.from_above.Statement.{statement}
 use Rattle.explicit_black.proofs.survival.from_above.Tie as tie
 
@@ -26,7 +27,9 @@ loop-holds c =
     (carried (survival-ends-above (start .args .mu) (start .args .probability) (start .args .initial) (start .pre) (start .good .0 .1)))
 
 returns : tie.Need-returns Inv-loop μ-loop
-returns c = some-have _ _ _ _ (sym (carried-stop (carried-at (c .before .before .before .loop .inv) (ap viewWidening (c .before .trial .given .1)))))
+returns c =
+    let reached = c .before in
+    some-have _ _ _ _ (found (reached .before .before .loop .inv) (ap viewWidening (reached .trial .given .1)))
 
 returns-2 : tie.Need-returns-2 Inv-loop μ-loop
 returns-2 c =
@@ -34,22 +37,21 @@ returns-2 c =
     let at-trial = at-survival .before .before in
     some-spent _ _
     (carried-spent _ (carried-at (at-trial .before .before .loop .inv) (ap viewWidening (at-trial .trial2 .given .1)))
-    (sym (ap (viewSurvivalEvaluation (at-trial .trial2 .given .0 .0 .lower)) (c .enum-told .given .1)) ∙ at-survival .inverse-gaussian-survival .ensures))
+    (seen (viewSurvivalEvaluation _) (at-survival .inverse-gaussian-survival .ensures) (c .enum-told .given .1)))
 
 loop-less : tie.Need-loop-less Inv-loop μ-loop
 loop-less c =
     let at-value = c .before .before in
-    let at-survival = at-value .before .before in
-    let at-trial = at-survival .before .before in
-    fewer _ (sym (ap (viewSurvivalEvaluation (at-trial .trial2 .given .0 .0 .lower)) (at-value .survival .given .1)) ∙ at-survival .inverse-gaussian-survival .ensures)
+    fewer _ (seen (viewSurvivalEvaluation _) (at-value .before .before .inverse-gaussian-survival .ensures) (at-value .survival .given .1))
 
 loop-again : tie.Need-loop-again Inv-loop μ-loop
 loop-again c =
     let at-value = c .before .before in
     let at-survival = at-value .before .before in
     let at-trial = at-survival .before .before in
-    carried-turn _ (carried-at (at-trial .before .before .loop .inv) (ap viewWidening (at-trial .trial2 .given .1)))
-    (sym (ap (viewSurvivalEvaluation (at-trial .trial2 .given .0 .0 .lower)) (at-value .survival .given .1)) ∙ at-survival .inverse-gaussian-survival .ensures) (sym (c .survival-lowered .ensures))
+    turned (carried-at (at-trial .before .before .loop .inv) (ap viewWidening (at-trial .trial2 .given .1)))
+    (told (seen (viewSurvivalEvaluation _) (at-survival .inverse-gaussian-survival .ensures) (at-value .survival .given .1)))
+    (c .survival-lowered .ensures) .carried
 
 pub from-above-spec : {M : Type 1} → statement M
 from-above-spec =

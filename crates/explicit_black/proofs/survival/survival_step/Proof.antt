@@ -6,7 +6,9 @@ use Rattle.explicit_black.proofs.survival.survival_step.Tie as tie
 
 returns : tie.Need-returns
 unfolding survivalStep
-returns c = rw (sym (c .before .before .before .is-far .ensures) ∙ c .before .before .if1 .taken, c .ln2 .ensures, c .before .ln .ensures)
+returns c =
+    let at-far = c .before .before in
+    rw (sym (at-far .before .is-far .ensures) ∙ at-far .if1 .taken, c .ln2 .ensures, c .before .ln .ensures)
 
 returns-2 : tie.Need-returns-2
 unfolding survivalStep

@@ -1,4 +1,4 @@
--- `bracket::Bracket::continueAt` meets its contract. Assumes nothing.
+-- `bracket::Bracket::continue_at` meets its contract. Assumes nothing.
 use Rattle.explicit_black.specs.Quantile.{continueAt}
 use Rattle.explicit_black.proofs.bracket.Bracket.continue_at.Statement.{statement}
 use Rattle.explicit_black.proofs.bracket.Bracket.continue_at.Tie as tie

@@ -6,11 +6,25 @@ use Rattle.explicit_black.proofs.bracket.Bracket.moved.Tie as tie
 
 returns : tie.Need-returns
 unfolding moved
-returns c = rw (c .before .before .before .before .step .given .1, ← c .before .before .abs .ensures, ← c .before .max .ensures, c .if1 .taken)
+returns c =
+    let at-max = c .before in
+    let at-abs = at-max .before in
+    rw (at-abs .before .before .step .given .1, ← at-abs .abs .ensures, ← at-max .max .ensures, c .if1 .taken)
 
 returns-2 : tie.Need-returns-2
 unfolding moved
-returns-2 c = rw (c .continue-at .ensures, c .before .before .before .before .before .before .step .given .1, ← c .before .before .before .before .abs .ensures, ← c .before .before .before .max .ensures, c .before .before .if1 .left, c .before .chosen .ensures)
+returns-2 c =
+    let at-test = c .before .before in
+    let at-max = at-test .before in
+    let at-abs = at-max .before in
+    rw (
+      c .continue-at .ensures,
+      at-abs .before .before .step .given .1,
+      ← at-abs .abs .ensures,
+      ← at-max .max .ensures,
+      at-test .if1 .left,
+      c .before .chosen .ensures,
+    )
 
 returns-3 : tie.Need-returns-3
 unfolding moved

@@ -6,11 +6,15 @@ use Rattle.explicit_black.proofs.bracket.Bracket.survival_moved.Tie as 
 
 returns : tie.Need-returns
 unfolding survivalMoved
-returns c = rw (c .before .before .before .step .given .1, ← c .before .abs .ensures, c .if1 .taken)
+returns c =
+    let at-abs = c .before in
+    rw (at-abs .before .before .step .given .1, ← at-abs .abs .ensures, c .if1 .taken)
 
 returns-2 : tie.Need-returns-2
 unfolding survivalMoved
-returns-2 c = rw (c .before .before .before .before .step .given .1, ← c .before .before .abs .ensures, c .before .if1 .left, c .chosen .ensures)
+returns-2 c =
+    let at-abs = c .before .before in
+    rw (at-abs .before .before .step .given .1, ← at-abs .abs .ensures, c .before .if1 .left, c .chosen .ensures)
 
 returns-3 : tie.Need-returns-3
 unfolding survivalMoved

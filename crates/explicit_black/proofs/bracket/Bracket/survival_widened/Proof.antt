@@ -13,7 +13,9 @@ returns-2 c = rw (c .before .before .if1 .left, c .if2 .taken)
 
 returns-3 : tie.Need-returns-3
 unfolding survivalWidened
-returns-3 c = rw (c .before .before .before .if1 .left, c .before .if2 .left, c .capped-from .ensures)
+returns-3 c =
+    let at-largest = c .before in
+    rw (at-largest .before .before .if1 .left, at-largest .if2 .left, c .capped-from .ensures)
 
 pub survival-widened-spec : {M : Type 1} → statement M
 survival-widened-spec = tie.close (tie.spec returns returns-2 (λ c κs. tt) returns-3)

@@ -7,11 +7,15 @@ use Rattle.explicit_black.proofs.counted.Quantile.filtered.Tie as tie
 
 returns : tie.Need-returns
 unfolding filtered
-returns c = rw (c .before .before .before .self .given .1, sym (c .before .is-finite-positive .ensures) ∙ c .if1 .taken)
+returns c =
+    let at-test = c .before in
+    rw (at-test .before .before .self .given .1, sym (at-test .is-finite-positive .ensures) ∙ c .if1 .taken)
 
 returns-2 : tie.Need-returns-2
 unfolding filtered
-returns-2 c = rw (c .before .before .before .self .given .1, sym (c .before .is-finite-positive .ensures) ∙ c .if1 .left)
+returns-2 c =
+    let at-test = c .before in
+    rw (at-test .before .before .self .given .1, sym (at-test .is-finite-positive .ensures) ∙ c .if1 .left)
 
 returns-3 : tie.Need-returns-3
 unfolding filtered

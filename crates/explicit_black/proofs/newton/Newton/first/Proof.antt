@@ -6,7 +6,9 @@ use Rattle.explicit_black.proofs.newton.Newton.first.Tie as tie
 
 returns : tie.Need-returns
 unfolding first
-returns c = rw (c .after-move .ensures, c .before .before .before .self .given .1, c .before .signum .ensures)
+returns c =
+    let at-signum = c .before in
+    rw (c .after-move .ensures, at-signum .before .before .self .given .1, at-signum .signum .ensures)
 
 returns-2 : tie.Need-returns-2
 unfolding first

@@ -10,7 +10,9 @@ returns c = rw (c .before .before .self .given .1, c .if1 .taken)
 
 returns-2 : tie.Need-returns-2
 unfolding later
-returns-2 c = rw (c .after-move .ensures, c .before .before .before .self .given .1, c .before .if1 .left)
+returns-2 c =
+    let at-test = c .before in
+    rw (c .after-move .ensures, at-test .before .before .self .given .1, at-test .if1 .left)
 
 returns-3 : tie.Need-returns-3
 unfolding later

@@ -2,7 +2,7 @@
 -- from here for what is left, in the steps that are left. The measure is the steps that are left. Assumes nothing.
 use borrow.Author.Needs.{needs}
 use mathlib.Core.Path.{refl, ap, _∙_}
-use Prim.Native.Nat.{_+_, _-_, _≤_}
+use Prim.Native.Nat.{_-_, _≤_}
 use native.Mathlib.Omega.{arith}
 use Rattle.explicit_black.specs.Counted.{limited}
 use Rattle.explicit_black.specs.Loops.{go}

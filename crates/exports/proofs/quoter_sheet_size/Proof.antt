@@ -1,7 +1,7 @@
 -- By what was found of the sheet. Assumes nothing.
 use mathlib.Core.Path.{sym, ap, _∙_}
 use Rattle.xdr_sheet.specs.Replies.{viewSize}
-use Rattle.exports.specs.Handed.{countingOf}
+use Rattle.exports.specs.ToC.{sizeToC}
 use borrow.Author.Needs.{needs}
 use Rattle.exports.proofs.quoter_sheet_size.Statement.{statement}
 use Rattle.exports.proofs.quoter_sheet_size.Tie as tie
@@ -9,12 +9,12 @@ use Rattle.exports.proofs.quoter_sheet_size.Tie as tie
 returns : tie.Need-returns
 returns c =
     let q = c .before .before .before in
-    ap (countingOf (q .before .before .args .quotes .now)) (sym (ap viewSize (c .before .n .given .1)) ∙ q .quotes-in .ensures)
+    ap (sizeToC (q .before .before .args .quotes .now)) (sym (ap viewSize (c .before .n .given .1)) ∙ q .quotes-in .ensures)
 
 returns-2 : tie.Need-returns-2
 returns-2 c =
     let q = c .before .before .before in
-    ap (countingOf (q .before .before .args .quotes .now)) (sym (ap viewSize (c .before .number .given .1)) ∙ q .quotes-in .ensures)
+    ap (sizeToC (q .before .before .args .quotes .now)) (sym (ap viewSize (c .before .number .given .1)) ∙ q .quotes-in .ensures)
 
 pub quoter-sheet-size-spec : {M : Type 1} → statement M
 quoter-sheet-size-spec =

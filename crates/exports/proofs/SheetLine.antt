@@ -1,4 +1,4 @@
--- What is handedReply of a line that was put into the caller's text, or had no room there. Assumes nothing.
+-- What C is handed of a line that was put into the caller's buffer, or had no room there. Assumes nothing.
 use mathlib.Core.Path.{_≡_}
 use mathlib.Core.List.{List}
 use Prim.Native.Nat.{ℕ}

@@ -1,4 +1,4 @@
-// The functions of the layers for C and Rust, on numbers and bytes.
+// The C interface: the layers' functions, the entries and sheets, on numbers and lent bytes. include/quoter.h declares it.
 use explicit_black::curves::Allowance;
 use explicit_black::curves::Evaluation;
 use explicit_black::curves::SurvivalEvaluation;
@@ -139,7 +139,7 @@ pub extern "C" fn quoter_inverse_gaussian_cdf(x: f64, mu: f64) -> f64
             pdf: _,
             rest: _,
         } => cdf,
-        // no case where one is allowed
+        // never: the one evaluation that it makes is allowed
         Evaluation::Spent => 0.0,
     }
 }
@@ -155,14 +155,15 @@ pub extern "C" fn quoter_inverse_gaussian_survival(x: f64, mu: f64) -> f64
             a: _,
             rest: _,
         } => survival,
-        // no case where one is allowed
+        // never: the one evaluation that it makes is allowed
         SurvivalEvaluation::Spent => 0.0,
     }
 }
 
-// Writes a reply to the caller's places; a refusal writes no figure.
+// Writes a reply to the caller's places. A refusal writes its count and leaves the two figures as they were.
 fn hand(reply: Reply, total: &mut f64, volatility: &mut f64, count: &mut u64) -> u32
-    ensures { λ r. ⌜ handedReply r (now (total .exit)) (now (volatility .exit)) (now (count .exit)) ≡ replyToC (now (total .entry)) (now (volatility .entry)) (viewReply reply) ⌝ }
+    ensures { λ r. ⌜ handedReply r (now (total .exit)) (now (volatility .exit)) (now (count .exit))
+        ≡ replyToC (now (total .entry)) (now (volatility .entry)) (viewReply reply) ⌝ }
 {
     match reply {
         Reply::Answer {
@@ -193,7 +194,8 @@ pub extern "C" fn quoter_quote(
     volatility: &mut f64,
     count: &mut u64,
 ) -> u32
-    ensures { λ r. ⌜ handedReply r (now (total .exit)) (now (volatility .exit)) (now (count .exit)) ≡ replyToC (now (total .entry)) (now (volatility .entry)) (impliedBlackVolatilityInput side price forward strike time) ⌝ }
+    ensures { λ r. ⌜ handedReply r (now (total .exit)) (now (volatility .exit)) (now (count .exit))
+        ≡ replyToC (now (total .entry)) (now (volatility .entry)) (impliedBlackVolatilityInput side price forward strike time) ⌝ }
 {
     let reply = explicit_black::quote::implied_black_volatility_input(
         side,
@@ -213,13 +215,14 @@ pub extern "C" fn quoter_normalised(
     volatility: &mut f64,
     count: &mut u64,
 ) -> u32
-    ensures { λ r. ⌜ handedReply r (now (total .exit)) (now (volatility .exit)) (now (count .exit)) ≡ replyToC (now (total .entry)) (now (volatility .entry)) (impliedBlackVolatilityNormalised «log_moneyness» price) ⌝ }
+    ensures { λ r. ⌜ handedReply r (now (total .exit)) (now (volatility .exit)) (now (count .exit))
+        ≡ replyToC (now (total .entry)) (now (volatility .entry)) (impliedBlackVolatilityNormalised «log_moneyness» price) ⌝ }
 {
     let reply = explicit_black::quote::implied_black_volatility_normalised(log_moneyness, price);
     hand(reply, total, volatility, count)
 }
 
-// How many quotes a sheet has: 0 with their number, or 10.
+// How many quotes a sheet has. 0: their number is written. Else the number of the refusal.
 #[no_mangle]
 pub extern "C" fn quoter_sheet_size(sheet: &[u8], quotes: &mut u32) -> u32
     ensures { λ r. ⌜ handedSize r (now (quotes .exit)) ≡ sizeToC (now (quotes .entry)) (size (now (sheet .entry))) ⌝ }
@@ -233,10 +236,10 @@ pub extern "C" fn quoter_sheet_size(sheet: &[u8], quotes: &mut u32) -> u32
     }
 }
 
-// No number of a refusal: an accepted sheet has no such quote.
+// Returned where an accepted sheet has no such quote; no refusal has this number.
 const NO_QUOTE: u32 = 0xffff_ffff;
 
-// The quote of a sheet with `index` quotes before it; 10 for each of a refused sheet.
+// The quote of a sheet with `index` quotes before it. Each quote of a refused sheet is refused as the sheet is.
 #[no_mangle]
 pub extern "C" fn quoter_sheet_quote(
     sheet: &[u8],
@@ -254,8 +257,8 @@ pub extern "C" fn quoter_sheet_quote(
     }
 }
 
-// The line that comes after so many answers and refusals, put at the start of `text`: its letter, V, R,
-// T or S in ASCII, with how many bytes it has; or 0 where `text` has no room for it.
+// The line that comes after so many answers and refusals, put at the start of `text`. Its letter, V, R, T
+// or S in ASCII, is returned, and its length written to `count`; or 0 is returned where `text` has no room for it.
 #[no_mangle]
 pub extern "C" fn quoter_sheet_line(
     sheet: &[u8],

@@ -1,4 +1,4 @@
--- `vectors::text::write_line` reads the bits of no NaN. Assumes nothing.
+-- No bits of a NaN are read. Assumes nothing.
 use Rattle.arithmetic.specs.Laws.Signs.{has-bits}
 use borrow.Author.Needs.{needs}
 use Rattle.vectors.proofs.text.write_line.Statement.{statement}

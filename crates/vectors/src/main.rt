@@ -82,7 +82,7 @@ fn bs_option_price_of(number: u32, a: f64, b: f64, c: f64) -> Outcome {
     }
 }
 
-// An evaluation's value.
+// The probability that an evaluation gives. None is given where the allowance is spent.
 fn cdf_of(evaluation: Evaluation) -> Outcome {
     match evaluation {
         Evaluation::Value {

@@ -13,10 +13,8 @@ pub fn write_line(value: f64) -> bool {
 
 // Writes the bytes of s from `from` up to `to`; whether they are there and that was done.
 fn write_part(s: &[u8], from: usize, to: usize) -> bool {
-    if from <= to {
-        if to <= s.len() {
-            return io::write_all(libc::STDOUT_FILENO, &s[from..to]);
-        }
+    if from <= to && to <= s.len() {
+        return io::write_all(libc::STDOUT_FILENO, &s[from..to]);
     }
     false
 }

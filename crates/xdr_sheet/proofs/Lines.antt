@@ -102,15 +102,15 @@ unfolding line
 refusal-line number reason count e h g i = from-empty e (h then g) ∙ rw i
 
 -- ---- a text at the start of a buffer
-abbrev Places : List ℕ → List ℕ → List ℕ → Placed → Type 0
-Places text buffer after r = (r ≡ bytesPlaced text buffer) × (after ≡ bufferAfter text buffer)
+abbrev PlacedAs : List ℕ → List ℕ → List ℕ → Placed → Type 0
+PlacedAs text buffer after r = (r ≡ bytesPlaced text buffer) × (after ≡ bufferAfter text buffer)
 
-pub no-room : (text buffer : List ℕ) → length buffer < length text → Places text buffer buffer NoRoom
+pub no-room : (text buffer : List ℕ) → length buffer < length text → PlacedAs text buffer buffer NoRoom
 unfolding bytesPlaced bufferAfter
 no-room text buffer h = rw (lt-leb (length text) (length buffer) h) (refl, refl)
 
 pub with-room : (l : Line) (n : ℕ) (buffer after : List ℕ)
-    → n ≡ length (written l) → n ≤ length buffer → after ≡ take n (l .bytes) ++ drop n buffer → Places (written l) buffer after (Bytes n)
+    → n ≡ length (written l) → n ≤ length buffer → after ≡ take n (l .bytes) ++ drop n buffer → PlacedAs (written l) buffer after (Bytes n)
 unfolding bytesPlaced bufferAfter
 with-room l n buffer after e h p =
     let g : length (written l) ≤ length buffer = omega arith in

@@ -77,17 +77,15 @@ fn quote(sheet: &[u8], at: usize) -> Reply
     implied_black_volatility_input(side, price, forward, strike, time)
 }
 
-// The reply of the quote with `index` quotes before it. Each quote of a refused sheet is refused as it is.
+// The reply of the quote with `index` quotes before it. Each quote of a refused sheet is refused as the sheet is.
 pub fn reply(sheet: &[u8], index: u64) -> SheetReply
     ensures { λ r. ⌜ viewSheetReply r ≡ sheetReply (now (sheet .entry)) index ⌝ }
 {
     match quotes_in(sheet) {
         Size::Quotes(count) => {
             if index < count as u64 {
-                return SheetReply::Replied(quote(
-                    sheet,
-                    COUNT_BYTES + QUOTE_BYTES * (index as usize),
-                ));
+                let at = COUNT_BYTES + QUOTE_BYTES * (index as usize);
+                return SheetReply::Replied(quote(sheet, at));
             }
             SheetReply::NoQuote
         }

@@ -40,6 +40,7 @@ fn there(s: &[u8], at: usize, count: usize) -> bool
     count <= s.len() - at
 }
 
+// An unsigned integer, in a word.
 pub fn unsigned(s: &[u8], at: usize) -> u32
     ensures { λ r. ⌜ r ≡ unsigned (now (s .entry)) at ⌝ }
 {
@@ -49,6 +50,7 @@ pub fn unsigned(s: &[u8], at: usize) -> u32
     0
 }
 
+// An unsigned hyper integer, in two words.
 fn hyper(s: &[u8], at: usize) -> u64
     ensures { λ r. ⌜ r ≡ hyper (now (s .entry)) at ⌝ }
 {
@@ -58,7 +60,7 @@ fn hyper(s: &[u8], at: usize) -> u64
     0
 }
 
-// The value of a pattern. `from_bits` is not defined on those of NaN, which arithmetic makes here.
+// The value of a pattern. `from_bits` is not defined on the patterns of NaN: a NaN is made by arithmetic.
 pub fn value(bits: u64) -> f64
     ensures { λ r. ⌜ r ≡ ofBits binary64 bits ⌝ }
 {
@@ -68,6 +70,7 @@ pub fn value(bits: u64) -> f64
     f64::from_bits(bits)
 }
 
+// A double: the value of the pattern in two words.
 pub fn double(s: &[u8], at: usize) -> f64
     ensures { λ r. ⌜ r ≡ double (now (s .entry)) at ⌝ }
 {

@@ -1,24 +1,24 @@
--- What is handed of a line that was put into the caller's text, or had no room there. Assumes nothing.
+-- What C is handed of a line that was put into the caller's buffer, or had no room there. Assumes nothing.
 use mathlib.Core.Path.{_≡_}
 use mathlib.Core.List.{List}
 use Prim.Native.Nat.{ℕ}
 use borrow.Author.Tests.{le-leb, lt-leb}
 use lib.ListN.{length}
-use Rattle.xdr_sheet.specs.Internal.Lines.{placed, placing}
-use Rattle.xdr_sheet.specs.Laws.Lines.{placed-bytes, placed-none}
+use Rattle.xdr_sheet.specs.Internal.Lines.{bytesPlaced, bufferAfter}
+use Rattle.xdr_sheet.specs.Laws.Lines.{bytes-placed, none-placed}
 use Rattle.xdr_sheet.specs.Printing.{Step}
 use Rattle.xdr_sheet.specs.declared.text.Placed.the-variants.{Bytes, NoRoom}
-use Rattle.exports.specs.Handed.{lined, lining}
+use Rattle.exports.specs.ToC.{handedLine, lineToC}
 
 module _ (old : ℕ) (buffer : List ℕ) {l m : Step} (e : l ≡ m) where
   pub line-put : (n : ℕ) (after : List ℕ)
-      → Bytes n ≡ placed (l .text) buffer → after ≡ placing (l .text) buffer → lined (l .letter) n after ≡ lining old buffer m
+      → Bytes n ≡ bytesPlaced (l .text) buffer → after ≡ bufferAfter (l .text) buffer → handedLine (l .letter) n after ≡ lineToC old buffer m
   line-put n after p q =
-      let f = placed-bytes (l .text) buffer n p in
+      let f = bytes-placed (l .text) buffer n p in
       rw (q, f .2, f .0, ← e, le-leb (length (l .text)) (length buffer) (f .1))
 
   pub line-not-put : (after : List ℕ)
-      → NoRoom ≡ placed (l .text) buffer → after ≡ placing (l .text) buffer → lined 0 old after ≡ lining old buffer m
+      → NoRoom ≡ bytesPlaced (l .text) buffer → after ≡ bufferAfter (l .text) buffer → handedLine 0 old after ≡ lineToC old buffer m
   line-not-put after p q =
-      let f = placed-none (l .text) buffer p in
+      let f = none-placed (l .text) buffer p in
       rw (q, f .1, ← e, lt-leb (length (l .text)) (length buffer) (f .0))

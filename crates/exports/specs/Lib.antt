@@ -1,2 +1,3 @@
--- What the contracts of the C interface cite.
-pub mod Handed
+-- What the contracts of the C interface cite, and a reader must believe: ToC, what a call hands to C. The functions of the layers promise the
+-- definitions of their own crates.
+pub mod ToC

@@ -1,9 +1,9 @@
-// The functions of the layers for C and Rust, on numbers and bytes.
+// The C interface: the layers' functions, the entries and sheets, on numbers and lent bytes. include/quoter.h declares it.
 use explicit_black::curves::Allowance;
 use explicit_black::curves::Evaluation;
 use explicit_black::curves::SurvivalEvaluation;
 use explicit_black::quote::Reply;
-use xdr_sheet::sheet::Asked;
+use xdr_sheet::sheet::SheetReply;
 use xdr_sheet::sheet::Size;
 use xdr_sheet::tally::Tally;
 use xdr_sheet::text::Placed;
@@ -20,9 +20,9 @@ ghost use Rattle.bs_option_price.specs.BsOptionPrice.{normalisedBlack, negative
 ghost use Rattle.explicit_black.specs.Curves.{inverseGaussianCdf, inverseGaussianSurvival};
 ghost use Rattle.explicit_black.specs.Quote.{impliedBlackVolatilityNormalised, impliedBlackVolatilityInput};
 ghost use Rattle.explicit_black.specs.Replies.{viewReply};
-ghost use Rattle.xdr_sheet.specs.Sheet.{size, quotedAt};
+ghost use Rattle.xdr_sheet.specs.Sheet.{size, sheetReply};
 ghost use Rattle.xdr_sheet.specs.Printing.{step};
-ghost use Rattle.exports.specs.Handed.{handed, handing, handingOf, counting, countingOf, lined, lining};
+ghost use Rattle.exports.specs.ToC.{handedReply, replyToC, sheetReplyToC, handedSize, sizeToC, handedLine, lineToC};
 
 #[no_mangle]
 pub extern "C" fn quoter_sqrt(x: f64) -> f64
@@ -139,7 +139,7 @@ pub extern "C" fn quoter_inverse_gaussian_cdf(x: f64, mu: f64) -> f64
             pdf: _,
             rest: _,
         } => cdf,
-        // no case where one is allowed
+        // never: the one evaluation that it makes is allowed
         Evaluation::Spent => 0.0,
     }
 }
@@ -155,14 +155,15 @@ pub extern "C" fn quoter_inverse_gaussian_survival(x: f64, mu: f64) -> f64
             a: _,
             rest: _,
         } => survival,
-        // no case where one is allowed
+        // never: the one evaluation that it makes is allowed
         SurvivalEvaluation::Spent => 0.0,
     }
 }
 
-// Writes a reply to the caller's places; a refusal writes no figure.
+// Writes a reply to the caller's places. A refusal writes its count and leaves the two figures as they were.
 fn hand(reply: Reply, total: &mut f64, volatility: &mut f64, count: &mut u64) -> u32
-    ensures { λ r. ⌜ handed r (now (total .exit)) (now (volatility .exit)) (now (count .exit)) ≡ handing (now (total .entry)) (now (volatility .entry)) (viewReply reply) ⌝ }
+    ensures { λ r. ⌜ handedReply r (now (total .exit)) (now (volatility .exit)) (now (count .exit))
+        ≡ replyToC (now (total .entry)) (now (volatility .entry)) (viewReply reply) ⌝ }
 {
     match reply {
         Reply::Answer {
@@ -193,7 +194,8 @@ pub extern "C" fn quoter_quote(
     volatility: &mut f64,
     count: &mut u64,
 ) -> u32
-    ensures { λ r. ⌜ handed r (now (total .exit)) (now (volatility .exit)) (now (count .exit)) ≡ handing (now (total .entry)) (now (volatility .entry)) (impliedBlackVolatilityInput side price forward strike time) ⌝ }
+    ensures { λ r. ⌜ handedReply r (now (total .exit)) (now (volatility .exit)) (now (count .exit))
+        ≡ replyToC (now (total .entry)) (now (volatility .entry)) (impliedBlackVolatilityInput side price forward strike time) ⌝ }
 {
     let reply = explicit_black::quote::implied_black_volatility_input(
         side,
@@ -213,16 +215,17 @@ pub extern "C" fn quoter_normalised(
     volatility: &mut f64,
     count: &mut u64,
 ) -> u32
-    ensures { λ r. ⌜ handed r (now (total .exit)) (now (volatility .exit)) (now (count .exit)) ≡ handing (now (total .entry)) (now (volatility .entry)) (impliedBlackVolatilityNormalised «log_moneyness» price) ⌝ }
+    ensures { λ r. ⌜ handedReply r (now (total .exit)) (now (volatility .exit)) (now (count .exit))
+        ≡ replyToC (now (total .entry)) (now (volatility .entry)) (impliedBlackVolatilityNormalised «log_moneyness» price) ⌝ }
 {
     let reply = explicit_black::quote::implied_black_volatility_normalised(log_moneyness, price);
     hand(reply, total, volatility, count)
 }
 
-// How many quotes a sheet has: 0 with their number, or 10.
+// How many quotes a sheet has. 0: their number is written. Else the number of the refusal.
 #[no_mangle]
 pub extern "C" fn quoter_sheet_size(sheet: &[u8], quotes: &mut u32) -> u32
-    ensures { λ r. ⌜ counting r (now (quotes .exit)) ≡ countingOf (now (quotes .entry)) (size (now (sheet .entry))) ⌝ }
+    ensures { λ r. ⌜ handedSize r (now (quotes .exit)) ≡ sizeToC (now (quotes .entry)) (size (now (sheet .entry))) ⌝ }
 {
     match xdr_sheet::sheet::quotes_in(sheet) {
         Size::Quotes(n) => {
@@ -233,10 +236,10 @@ pub extern "C" fn quoter_sheet_size(sheet: &[u8], quotes: &mut u32) -> u32
     }
 }
 
-// No number of a refusal: an accepted sheet has no such quote.
+// Returned where an accepted sheet has no such quote; no refusal has this number.
 const NO_QUOTE: u32 = 0xffff_ffff;
 
-// The quote of a sheet with `index` quotes before it; 10 for each of a refused sheet.
+// The quote of a sheet with `index` quotes before it. Each quote of a refused sheet is refused as the sheet is.
 #[no_mangle]
 pub extern "C" fn quoter_sheet_quote(
     sheet: &[u8],
@@ -245,17 +248,17 @@ pub extern "C" fn quoter_sheet_quote(
     volatility: &mut f64,
     count: &mut u64,
 ) -> u32
-    ensures { λ r. ⌜ handed r (now (total .exit)) (now (volatility .exit)) (now (count .exit))
-        ≡ handingOf (now (total .entry)) (now (volatility .entry)) (now (count .entry)) (quotedAt (now (sheet .entry)) index) ⌝ }
+    ensures { λ r. ⌜ handedReply r (now (total .exit)) (now (volatility .exit)) (now (count .exit))
+        ≡ sheetReplyToC (now (total .entry)) (now (volatility .entry)) (now (count .entry)) (sheetReply (now (sheet .entry)) index) ⌝ }
 {
     match xdr_sheet::sheet::reply(sheet, index) {
-        Asked::Replied(reply) => hand(reply, total, volatility, count),
-        Asked::Nothing => NO_QUOTE,
+        SheetReply::Replied(reply) => hand(reply, total, volatility, count),
+        SheetReply::NoQuote => NO_QUOTE,
     }
 }
 
-// The line that comes after so many answers and refusals, put at the start of `text`: its letter, V, R,
-// T or S in ASCII, with how many bytes it has; or 0 where `text` has no room for it.
+// The line that comes after so many answers and refusals, put at the start of `text`. Its letter, V, R, T
+// or S in ASCII, is returned, and its length written to `count`; or 0 is returned where `text` has no room for it.
 #[no_mangle]
 pub extern "C" fn quoter_sheet_line(
     sheet: &[u8],
@@ -264,8 +267,8 @@ pub extern "C" fn quoter_sheet_line(
     text: &mut [u8],
     count: &mut u64,
 ) -> u32
-    ensures { λ r. ⌜ lined r (now (count .exit)) (now (text .exit))
-        ≡ lining (now (count .entry)) (now (text .entry)) (step (now (sheet .entry)) (record { answers = answers; refusals = refusals })) ⌝ }
+    ensures { λ r. ⌜ handedLine r (now (count .exit)) (now (text .exit))
+        ≡ lineToC (now (count .entry)) (now (text .entry)) (step (now (sheet .entry)) (record { answers = answers; refusals = refusals })) ⌝ }
 {
     let tally = Tally {
         answers: answers,

@@ -9,7 +9,7 @@ pub struct Input {
     pub failed: bool,
 }
 
-// One read; no byte at the end of the input.
+// One read, which gives no byte at the end of the input.
 fn read_some(part: &mut [u8]) -> Input
     ensures { λ r. ⌜ r .count ≤ length (now (part .exit)) ⌝ }
 {

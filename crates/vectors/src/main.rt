@@ -2,7 +2,6 @@
 // function's number and three doubles, as XDR writes them. Each record gives a line: the 16 digits
 // of the result's bits, or `nan`; for the normalised entry a sheet's line without its number. A number
 // that names no function ends the run.
-mod record;
 mod text;
 
 use arithmetic::basic::max;
@@ -23,8 +22,6 @@ use explicit_black::curves::inverse_gaussian_cdf;
 use explicit_black::curves::inverse_gaussian_survival;
 use explicit_black::quote::Reply;
 use explicit_black::quote::implied_black_volatility_normalised;
-use record::figure;
-use record::function;
 use special_function::error_function::erf_cody;
 use special_function::error_function::erfc_cody;
 use special_function::error_function::erfcx_cody;
@@ -34,15 +31,20 @@ use special_function::normal_distribution::norm_cdf;
 use special_function::normal_distribution::norm_pdf;
 use text::write_line;
 use text::write_reply;
+use xdr_sheet::xdr::double;
+use xdr_sheet::xdr::unsigned;
 
+const RECORD_BYTES: usize = 28;
+
+// What a record gives: a function's value, a reply of the normalised entry, or that its number names no function.
 pub enum Outcome {
     Number(f64),
-    Quoted(Reply),
+    Replied(Reply),
     Unknown,
 }
 
-// The functions of layer one.
-fn arithmetic_of(number: u64, a: f64, b: f64, c: f64) -> Outcome {
+// The functions of layer one, by their numbers.
+fn arithmetic_of(number: u32, a: f64, b: f64, c: f64) -> Outcome {
     match number {
         1 => Outcome::Number(sqrt(a)),
         2 => Outcome::Number(mul_add(a, b, c)),
@@ -57,8 +59,8 @@ fn arithmetic_of(number: u64, a: f64, b: f64, c: f64) -> Outcome {
     }
 }
 
-// Those of layer two.
-fn special_function_of(number: u64, a: f64) -> Outcome {
+// The functions of layer two.
+fn special_function_of(number: u32, a: f64) -> Outcome {
     match number {
         10 => Outcome::Number(erf_cody(a)),
         11 => Outcome::Number(erfc_cody(a)),
@@ -71,8 +73,8 @@ fn special_function_of(number: u64, a: f64) -> Outcome {
     }
 }
 
-// Those of layer three.
-fn bs_option_price_of(number: u64, a: f64, b: f64, c: f64) -> Outcome {
+// The functions of layer three.
+fn bs_option_price_of(number: u32, a: f64, b: f64, c: f64) -> Outcome {
     match number {
         17 => Outcome::Number(normalised_black(a, b, c)),
         18 => Outcome::Number(negative_abs_log_moneyness(a, b)),
@@ -80,7 +82,7 @@ fn bs_option_price_of(number: u64, a: f64, b: f64, c: f64) -> Outcome {
     }
 }
 
-// The values of evaluations that are allowed.
+// The probability that an evaluation gives. None is given where the allowance is spent.
 fn cdf_of(evaluation: Evaluation) -> Outcome {
     match evaluation {
         Evaluation::Value {
@@ -104,22 +106,22 @@ fn survival_of(evaluation: SurvivalEvaluation) -> Outcome {
     }
 }
 
-// Those of layer four.
-fn explicit_black_of(number: u64, a: f64, b: f64) -> Outcome {
+// The functions of layer four. A curve is allowed the one evaluation that it makes.
+fn explicit_black_of(number: u32, a: f64, b: f64) -> Outcome {
     match number {
-        19 => Outcome::Quoted(implied_black_volatility_normalised(a, b)),
+        19 => Outcome::Replied(implied_black_volatility_normalised(a, b)),
         20 => cdf_of(inverse_gaussian_cdf(a, b, Allowance::new(1))),
         21 => survival_of(inverse_gaussian_survival(a, b, Allowance::new(1))),
         _ => Outcome::Unknown,
     }
 }
 
-// The result of a record's function.
-fn evaluate(input: &[u8; 28]) -> Outcome {
-    let number = function(input);
-    let a = figure(input, 4);
-    let b = figure(input, 12);
-    let c = figure(input, 20);
+// What a record gives: its function's number comes first, then its three doubles.
+fn evaluate(record: &[u8]) -> Outcome {
+    let number = unsigned(record, 0);
+    let a = double(record, 4);
+    let b = double(record, 12);
+    let c = double(record, 20);
     if number < 10 {
         return arithmetic_of(number, a, b, c);
     }
@@ -132,22 +134,22 @@ fn evaluate(input: &[u8; 28]) -> Outcome {
     explicit_black_of(number, a, b)
 }
 
-// Reads a record and writes its line; whether to go on.
-fn turn() -> bool {
-    let mut input = [0u8; 28];
-    if io::read_full(libc::STDIN_FILENO, &mut input) < 28 {
+// Reads a record and writes its line; whether both were done.
+fn answer_record() -> bool {
+    let mut record = [0u8; RECORD_BYTES];
+    if io::read_full(libc::STDIN_FILENO, &mut record) < RECORD_BYTES {
         return false;
     }
-    match evaluate(&input) {
+    match evaluate(&record) {
         Outcome::Number(value) => write_line(value),
-        Outcome::Quoted(reply) => write_reply(reply),
+        Outcome::Replied(reply) => write_reply(reply),
         Outcome::Unknown => false,
     }
 }
 
 fn main() {
-    let mut turns = u64::MAX;
-    while turns > 0 && turn() {
-        turns -= 1;
+    let mut records = u64::MAX;
+    while records > 0 && answer_record() {
+        records -= 1;
     }
 }

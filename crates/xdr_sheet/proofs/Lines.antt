@@ -1,4 +1,4 @@
--- Lines that grow, and how many digits a number takes. Assumes nothing.
+-- Lines that grow, lines put into buffers, and how many digits a number takes. Assumes nothing.
 use mathlib.Core.Path.{_≡_, refl, sym, ap, _∙_, subst}
 use mathlib.Core.List.{List, [], _∷_, _++_, map, append-assoc, append-nil}
 use Prim.Native.Nat.{ℕ, zero, suc, _+_, _-_, _*_, _/_, _^_, _≤_, _<_}
@@ -6,24 +6,24 @@ use native.Mathlib.Numerals.{add-one}
 use native.Mathlib.Nat.{lt-of-lt-of-le, lt-of-not-le, not-le-of-lt, le-of-suc-le-suc, not-suc-le-zero, lt-irrefl, le-antisymm, le-trans}
 use native.Mathlib.Nat.{pow-suc, div-lt-iff-lt-mul, le-div-iff-mul-le, pow-le-pow-right}
 use native.Mathlib.Omega.{arith}
-use mathlib.Core.Bool.{Bool, true, false, not, cond}
-use borrow.Author.Tests.{lt-leb, le-leb}
-use lib.Dec.{T, ltb, ltb→lt, nltb→le, lit<, lit≤}
+use borrow.Author.Tests.{lt-leb, le-leb, ltb-true, ltb-false}
+use lib.Dec.{ltb, lit<, lit≤}
 use lib.Ieee.{Float, binary64, toBits}
 use lib.ListN.{length, take, drop, set, getD, length-append, length-map}
 use lib.Seq.{take-suc-set, take-suc, take-all, drop-cons, append-snoc, set-at, length-front, length-take-le}
-use Rattle.explicit_black.specs.declared.quote.Reply.{Reply as Handed}
+use Rattle.explicit_black.specs.declared.quote.Reply.{Reply as CodeReply}
 use Rattle.explicit_black.specs.declared.quote.Reply.the-variants.{Answer, Refusal}
 use Rattle.explicit_black.specs.Replies.{viewReply}
+use Rattle.arithmetic.specs.Laws.Choices.{by-test}
 use Rattle.io.specs.Digits.{digits, Fewest}
 use Rattle.xdr_sheet.specs.declared.text.Line.{Line}
 use Rattle.xdr_sheet.specs.declared.text.Placed.{Placed}
 use Rattle.xdr_sheet.specs.declared.text.Placed.the-variants.{Bytes, NoRoom}
 use Rattle.xdr_sheet.specs.Text.{places, decimal, hexadecimal, answerFields, refusalFields, line}
-use Rattle.xdr_sheet.specs.Internal.Lines.{written, Extended, placed, placing}
+use Rattle.xdr_sheet.specs.Internal.Lines.{written, Extended, bytesPlaced, bufferAfter}
 use Rattle.xdr_sheet.specs.Laws.Lines.{few-places}
 
--- ---- lines
+-- ---- lines that grow
 pub same-line : (l : Line) → Extended l [] l
 same-line l = record { text = sym (append-nil (written l)); count = zero-more (l .length) }
   where
@@ -40,16 +40,21 @@ _then_ {a} {b} {c} {x} {y} h g = record {
     sum : (n p q : ℕ) → n ≡ p + q → b .length ≡ a .length + p → c .length ≡ b .length + q → c .length ≡ a .length + n
     sum n p q e f k = omega arith
 
--- all that was written after nothing
+-- another term for the text that was added
+pub same-text : {a b : Line} {x y : List ℕ} → Extended a x b → x ≡ y → Extended a y b
+same-text {a} {b} h e = subst (λ (t : List ℕ). Extended a t b) e h
+
+-- a line that was empty has the text that was added
 pub from-empty : {a b : Line} {x : List ℕ} → written a ≡ [] → Extended a x b → written b ≡ x
 from-empty {x = x} e h = h .text ∙ ap (λ (z : List ℕ). z ++ x) e
 
--- the next element of a list of bytes, and all of them
-pub turn : (a b c : Line) (s : List ℕ) (i : ℕ) → i < length s → Extended a (take i s) b → Extended b (getD s i 0 ∷ []) c → Extended a (take (i + 1) s) c
-turn a b c s i h e f = subst (λ (t : List ℕ). Extended a t c) (sym (ap (λ (k : ℕ). take k s) (add-one i) ∙ take-suc s i 0 h)) (e then f)
+-- bytes are added one after another, and then they are all there
+pub next-byte : (a b c : Line) (s : List ℕ) (i : ℕ) → i < length s
+    → Extended a (take i s) b → Extended b (getD s i 0 ∷ []) c → Extended a (take (i + 1) s) c
+next-byte a b c s i h e f = same-text (e then f) (sym (ap (λ (k : ℕ). take k s) (add-one i) ∙ take-suc s i 0 h))
 
 pub whole : (a b : Line) (s : List ℕ) (i : ℕ) → length s ≤ i → Extended a (take i s) b → Extended a s b
-whole a b s i h e = subst (λ (t : List ℕ). Extended a t b) (take-all i s h) e
+whole a b s i h e = same-text e (take-all i s h)
 
 -- an array of 80 bytes, read as a list
 eighty : (l : List ℕ) → length (map (λ (v : ℕ). v) l) ≡ 80 → length l ≡ 80
@@ -58,14 +63,14 @@ eighty l e = sym (length-map l (λ (v : ℕ). v)) ∙ e
 pub room : (l : List ℕ) {n : ℕ} → length (map (λ (v : ℕ). v) l) ≡ 80 → n < 80 → n < length l
 room l e h = omega (arith, eighty l e)
 
+-- as many bytes as `count` says are the text
 pub written-below : (l : Line) → length (map (λ (v : ℕ). v) (l .bytes)) ≡ 80 → l .length < 80 → l .length ≡ length (written l)
 written-below l e h = sym (length-take-le (l .length) (l .bytes) (omega (arith, eighty (l .bytes) e)))
 
 pub written-above : (l : Line) → length (map (λ (v : ℕ). v) (l .bytes)) ≡ 80 → 80 ≤ l .length → 80 ≡ length (written l)
 written-above l e h = sym (ap length (take-all (l .length) (l .bytes) (omega (arith, eighty (l .bytes) e))) ∙ eighty (l .bytes) e)
 
--- as many bytes as were counted
-pub take-written : (l : Line) → take (length (written l)) (l .bytes) ≡ written l
+take-written : (l : Line) → take (length (written l)) (l .bytes) ≡ written l
 take-written l = go (l .length) (l .bytes)
   where
     go : (n : ℕ) (s : List ℕ) → take (length (take n s)) s ≡ take n s
@@ -73,63 +78,66 @@ take-written l = go (l .length) (l .bytes)
     go (suc n) [] = refl
     go (suc n) (x ∷ s) = ap (λ (r : List ℕ). x ∷ r) (go n s)
 
--- one byte more
+-- a byte set after the text is added to it
 pub one-more : (l r : Line) (b : ℕ)
     → l .length < length (l .bytes) → r .bytes ≡ set (l .bytes) (l .length) b → r .length ≡ l .length + 1 → Extended l (b ∷ []) r
 one-more l r b h e n = record {
-  text = ap (λ (k : ℕ). take k (r .bytes)) (n ∙ add-one (l .length)) ∙ ap (take (suc (l .length))) e ∙ take-suc-set (l .bytes) (l .length) b h;
+  text = ap (λ (k : ℕ). take k (r .bytes)) (n ∙ add-one (l .length)) ∙ ap (take (suc (l .length))) e
+      ∙ take-suc-set (l .bytes) (l .length) b h;
   count = n;
 }
 
 -- ---- the line of a reply
-pub answer-line : (number p q count : ℕ) {total volatility : Float} {a b r : Line} {reply : Handed}
+pub answer-line : (number p q count : ℕ) {total volatility : Float} {a b r : Line} {reply : CodeReply}
     → written a ≡ [] → Extended a (decimal number) b → Extended b (answerFields p q count) r
-    → reply ≡ Answer total volatility count → p ≡ toBits binary64 total → q ≡ toBits binary64 volatility → written r ≡ line number (viewReply reply)
+    → reply ≡ Answer total volatility count → p ≡ toBits binary64 total → q ≡ toBits binary64 volatility
+    → written r ≡ line number (viewReply reply)
 unfolding line
 answer-line number p q count e h g i j k = from-empty e (h then g) ∙ rw (i, j, k)
 
-pub refusal-line : (number reason count : ℕ) {a b r : Line} {reply : Handed}
+pub refusal-line : (number reason count : ℕ) {a b r : Line} {reply : CodeReply}
     → written a ≡ [] → Extended a (decimal number) b → Extended b (refusalFields reason count) r
     → reply ≡ Refusal reason count → written r ≡ line number (viewReply reply)
 unfolding line
 refusal-line number reason count e h g i = from-empty e (h then g) ∙ rw i
 
 -- ---- a text at the start of a buffer
-abbrev Places : List ℕ → List ℕ → List ℕ → Placed → Type 0
-Places text buffer after r = (r ≡ placed text buffer) × (after ≡ placing text buffer)
+abbrev PlacedAs : List ℕ → List ℕ → List ℕ → Placed → Type 0
+PlacedAs text buffer after r = (r ≡ bytesPlaced text buffer) × (after ≡ bufferAfter text buffer)
 
-pub no-room : (text buffer : List ℕ) → length buffer < length text → Places text buffer buffer NoRoom
-unfolding placed placing
+pub no-room : (text buffer : List ℕ) → length buffer < length text → PlacedAs text buffer buffer NoRoom
+unfolding bytesPlaced bufferAfter
 no-room text buffer h = rw (lt-leb (length text) (length buffer) h) (refl, refl)
 
 pub with-room : (l : Line) (n : ℕ) (buffer after : List ℕ)
-    → n ≡ length (written l) → n ≤ length buffer → after ≡ take n (l .bytes) ++ drop n buffer → Places (written l) buffer after (Bytes n)
-unfolding placed placing
+    → n ≡ length (written l) → n ≤ length buffer → after ≡ take n (l .bytes) ++ drop n buffer → PlacedAs (written l) buffer after (Bytes n)
+unfolding bytesPlaced bufferAfter
 with-room l n buffer after e h p =
     let g : length (written l) ≤ length buffer = omega arith in
     rw (le-leb (length (written l)) (length buffer) g) (ap Bytes e, p ∙ rw (e, take-written l))
 
--- a buffer whose first bytes are replaced, and one byte more
+-- a buffer whose first bytes are replaced keeps its length, and one byte more is replaced
 pub kept-length : (s d : List ℕ) (i : ℕ) → i ≤ length s → i ≤ length d → length (take i s ++ drop i d) ≡ length d
 kept-length s d i h g = length-front d (take i s) i (length-take-le i s h ∙ sym (length-take-le i d g))
 
-pub copied : (s d : List ℕ) (i : ℕ) → i < length s → i < length d → set (take i s ++ drop i d) i (getD s i 0) ≡ take (i + 1) s ++ drop (i + 1) d
+pub copied : (s d : List ℕ) (i : ℕ) → i < length s → i < length d
+    → set (take i s ++ drop i d) i (getD s i 0) ≡ take (i + 1) s ++ drop (i + 1) d
 copied s d i h g =
     rw (add-one i, take-suc s i 0, drop-cons d i 0)
     (set-at (take i s) (getD d i 0) (drop (suc i) d) (getD s i 0) i (length-take-le i s (omega arith))
     ∙ sym (append-snoc (take i s) (getD s i 0) (drop (suc i) d)))
 
--- ---- how many digits
+-- ---- how many digits a number has: `Fewest` of the kit's `io` says the same as `places`
 less-one : (k : ℕ) → suc k - 1 ≡ k
 less-one k = omega arith
 
 more : (k : ℕ) → 1 < suc (suc k)
 more k = omega arith
 
-few : (n k : ℕ) → n < 10 → Fewest 10 1 n k → 1 ≡ k
-few n zero h f = absurd (not-suc-le-zero (f .0))
-few n (suc zero) h f = refl
-few n (suc (suc k)) h f =
+one-digit : (n k : ℕ) → n < 10 → Fewest 10 1 n k → 1 ≡ k
+one-digit n zero h f = absurd (not-suc-le-zero (f .0))
+one-digit n (suc zero) h f = refl
+one-digit n (suc (suc k)) h f =
     absurd
     (not-le-of-lt h (le-trans (pow-le-pow-right {n = 10} (lit< tt) (le-of-suc-le-suc (more k)))
     (subst (λ (x : ℕ). 10 ^ x ≤ n) (less-one (suc k)) (f .2 (more k)))))
@@ -143,24 +151,25 @@ tenth n k h f = (
 )
   where
     same : (k : ℕ) → 1 < suc k → 10 ^ (suc (suc k) - 1) ≡ 10 ^ (suc k - 1) * 10
-    same (suc k) g = ap (λ (x : ℕ). 10 ^ x) (less-one (suc (suc k))) ∙ pow-suc 10 (suc k) ∙ ap (λ (x : ℕ). 10 ^ x * 10) (sym (less-one (suc k)))
+    same (suc k) g =
+        ap (λ (x : ℕ). 10 ^ x) (less-one (suc (suc k))) ∙ pow-suc 10 (suc k) ∙ ap (λ (x : ℕ). 10 ^ x * 10) (sym (less-one (suc k)))
     same zero g = absurd (lt-irrefl 1 g)
 
 pub places-is : (f n k : ℕ) → n < 10 ^ suc f → Fewest 10 1 n k → places f n ≡ k
 unfolding places
-places-is zero n k h f = few n k h f
-places-is (suc f) n k h g = go (ltb n 10) (ltb→lt n 10) (nltb→le n 10)
-    (λ j. places-is f (n / 10) j (div-lt-iff-lt-mul (lit< tt) .1 (subst (λ (x : ℕ). n < x) (pow-suc 10 (suc f)) h)))
+places-is zero n k h f = one-digit n k h f
+places-is (suc f) n k h g =
+    by-test (λ (p : ℕ). p ≡ k) (ltb n 10) (λ below. one-digit n k (ltb-true n 10 below) g)
+    (λ above. more-digits k (ltb-false n 10 above) g (λ j. places-is f (n / 10) j fewer))
   where
-    many : (k : ℕ) → 10 ≤ n → Fewest 10 1 n k → ((j : ℕ) → Fewest 10 1 (n / 10) j → places f (n / 10) ≡ j) → suc (places f (n / 10)) ≡ k
-    many zero l g r = absurd (not-suc-le-zero (g .0))
-    many (suc zero) l g r = absurd (not-le-of-lt (g .1) l)
-    many (suc (suc k)) l g r = ap suc (r (suc k) (tenth n k l g))
+    fewer : n / 10 < 10 ^ suc f
+    fewer = div-lt-iff-lt-mul (lit< tt) .1 (subst (λ (x : ℕ). n < x) (pow-suc 10 (suc f)) h)
 
-    go : (b : Bool) → (T b → n < 10) → (T (not b) → 10 ≤ n)
-        → ((j : ℕ) → Fewest 10 1 (n / 10) j → places f (n / 10) ≡ j) → cond b 1 (suc (places f (n / 10))) ≡ k
-    go true a b r = few n k (a tt) g
-    go false a b r = many k (b tt) g r
+    more-digits : (k : ℕ) → 10 ≤ n → Fewest 10 1 n k → ((j : ℕ) → Fewest 10 1 (n / 10) j → places f (n / 10) ≡ j)
+        → suc (places f (n / 10)) ≡ k
+    more-digits zero l g r = absurd (not-suc-le-zero (g .0))
+    more-digits (suc zero) l g r = absurd (not-le-of-lt (g .1) l)
+    more-digits (suc (suc k)) l g r = ap suc (r (suc k) (tenth n k l g))
 
 pub places-le : (n k : ℕ) → n < 2 ^ 64 → Fewest 10 1 n k → k ≤ 20
 places-le n k h f = subst (λ (x : ℕ). x ≤ 20) (places-is 19 n k (lt-of-lt-of-le h (lit≤ tt)) f) (few-places 19 n)
@@ -172,10 +181,10 @@ decimal-is n k h f = ap (λ (x : ℕ). digits 10 x n) (sym (places-is 19 n k (lt
 
 pub sixteen : (n k : ℕ) → n < 2 ^ 64 → Fewest 16 16 n k → k ≡ 16
 sixteen n k h f =
-    le-antisymm (le-of-suc-le-suc (lt-of-not-le (λ (g : 17 ≤ k). not-le-of-lt h (le-trans (pow-le-pow-right {n = 16} (lit< tt) (less k g)) (f .2 g))))) (f .0)
+    le-antisymm (le-of-suc-le-suc (lt-of-not-le (λ (g : 17 ≤ k). not-le-of-lt h (le-trans (too-large k g) (f .2 g))))) (f .0)
   where
-    less : (k : ℕ) → 17 ≤ k → 16 ≤ k - 1
-    less k g = omega arith
+    too-large : (k : ℕ) → 17 ≤ k → 2 ^ 64 ≤ 16 ^ (k - 1)
+    too-large k g = pow-le-pow-right {n = 16} (lit< tt) {i = 16} (omega arith)
 
 pub hexadecimal-is : (n k : ℕ) → n < 2 ^ 64 → Fewest 16 16 n k → digits 16 k n ≡ hexadecimal n
 unfolding hexadecimal

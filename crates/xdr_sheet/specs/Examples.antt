@@ -1,4 +1,4 @@
--- Document 01's sheets and their text, to the byte. Assumes nothing.
+-- The sheet of REQUIREMENTS 11.4, one of no quotes and one that is refused, with their text to the byte. Assumes nothing.
 use mathlib.Core.Path.{_≡_, refl}
 use Prim.Native.Nat.{ℕ}
 use mathlib.Core.List.{List, [], _∷_, _++_}
@@ -24,7 +24,7 @@ hundred = 0x40 ∷ 0x59 ∷ 0x00 ∷ 0x00 ∷ 0x00 ∷ 0x00 ∷ 0x00 ∷ 0x00 �
 abbrev hundredTwenty : List ℕ
 hundredTwenty = 0x40 ∷ 0x5E ∷ 0x00 ∷ 0x00 ∷ 0x00 ∷ 0x00 ∷ 0x00 ∷ 0x00 ∷ []
 
--- a word below 256
+-- a number below 256 in a word
 abbrev word : ℕ → List ℕ
 word n = 0x00 ∷ 0x00 ∷ 0x00 ∷ n ∷ []
 
@@ -36,7 +36,8 @@ sample =
     ++ word 0 ++ hundred ++ hundred ++ hundredTwenty ++ one
     ++ word 1 ++ five ++ hundred ++ hundredTwenty ++ one
 
-pub text-of-sample : text sample ≡ ascii "1 V 0000000000000000 0000000000000000 0\n2 V 7ff0000000000000 7ff0000000000000 0\n3 R 7 0\nT 2 1\n"
+pub text-of-sample : text sample
+    ≡ ascii "1 V 0000000000000000 0000000000000000 0\n2 V 7ff0000000000000 7ff0000000000000 0\n3 R 7 0\nT 2 1\n"
 unfolding text impliedBlackVolatilityInput fromQuote firstRefusal fromPrice fromTimeValue volatility sqrt add sub mul div lt le eq isNan ofBits toBits
 text-of-sample = refl
 

@@ -1,2 +1,3 @@
--- Definitions that only serve the code: what the contracts of its inner steps cite.
+-- Definitions that only serve the code: lines in memory, and what the code's structs stand for.
 pub mod Lines
+pub mod Printing

@@ -1,4 +1,4 @@
--- Facts about the definitions, which the proofs here and the crates above cite.
+-- Proved facts about the definitions: the size and quotes of a sheet, how long lines are, and that the parts of the text are the text.
 pub mod Lines
 pub mod Printing
 pub mod Sheet

@@ -1,21 +1,18 @@
--- A sheet's text, in lines and in parts of whole lines. Definitions only.
+-- A sheet's text line by line, and in parts of whole lines as buffers hold them (REQUIREMENTS 11.6). Definitions only.
 use Prim.Native.Char.{code}
 use Prim.Native.Nat.{ℕ, zero, suc, _+_, _-_, _≤_}
 use mathlib.Core.Bool.{cond}
 use mathlib.Core.List.{List, [], _∷_, _++_}
 use lib.ListN.{length}
 use Rattle.explicit_black.specs.Quote.{Reply}
-use Rattle.xdr_sheet.specs.Tally.{emptyTally, tallied, counted}
-use Rattle.xdr_sheet.specs.Text.{lineBytes, line, letter, closing, refusedSheet}
-use Rattle.xdr_sheet.specs.Sheet.{Size, quotes, refused, size, replyAt, Quoted, quoted, noQuote, quotedAt}
-use Rattle.xdr_sheet.specs.Internal.Lines.{written, fitsInto, overlaid}
+use Rattle.xdr_sheet.specs.Tally.{emptyTally, tallyWith, tallyCount}
+use Rattle.xdr_sheet.specs.Text.{lineBytes, line, letter, closing, refusedSheet, fitsInto, overlaid}
+use Rattle.xdr_sheet.specs.Sheet.{Size, quotes, refused, size, replyAt, SheetReply, replied, noQuote, sheetReply}
 use Rattle.xdr_sheet.specs.declared.tally.Tally.{Tally}
 use Rattle.xdr_sheet.specs.declared.printing.Progress.{Progress}
 use Rattle.xdr_sheet.specs.declared.printing.Progress.the-variants.{Tallied, Over}
-use Rattle.xdr_sheet.specs.declared.printing.Printed.{Printed}
-use Rattle.xdr_sheet.specs.declared.printing.Filled.{Filled}
 
--- no quote's line is printed
+-- before the first line
 abbrev pub start : Progress
 start = Tallied emptyTally
 
@@ -25,9 +22,9 @@ pub record Step : Type 0 where
   pub letter : ℕ
   pub next : Progress
 
--- that of a quote, after those tallied; the last, with the tallies; that of a refused sheet
+-- the line of a quote after those tallied; the last, with the tally; the line of a refused sheet
 abbrev pub quoteStep : Tally → Reply → Step
-quoteStep t r = record { text = line (counted t + 1) r; letter = letter r; next = Tallied (tallied t r) }
+quoteStep t r = record { text = line (tallyCount t + 1) r; letter = letter r; next = Tallied (tallyWith t r) }
 
 abbrev pub lastStep : Tally → Step
 lastStep t = record { text = closing t; letter = code "T"; next = Over }
@@ -36,29 +33,25 @@ abbrev pub refusedStep : ℕ → Step
 refusedStep number = record { text = refusedSheet number; letter = code "S"; next = Over }
 
 -- the line after those of the quotes tallied
-abbrev pub stepAt : Tally → Quoted → Step
-stepAt t (quoted r) = quoteStep t r
+abbrev pub stepAt : Tally → SheetReply → Step
+stepAt t (replied r) = quoteStep t r
 stepAt t noQuote = lastStep t
 
 abbrev pub stepOf : List ℕ → Tally → Size → Step
-stepOf s t (quotes n) = stepAt t (quotedAt s (counted t))
+stepOf s t (quotes n) = stepAt t (sheetReply s (tallyCount t))
 stepOf s t (refused number count) = refusedStep number
 
 unfoldable pub step : List ℕ → Tally → Step
-unfolding size quotedAt line closing refusedSheet
+unfolding size sheetReply line closing refusedSheet
 step s t = stepOf s t (size s)
-
--- what the code hands back of a line
-abbrev pub viewPrinted : Printed → Step
-viewPrinted r = record { text = written (r .line); letter = r .letter; next = r .next }
 
 -- ---- all lines that are still to come: of m quotes and the last, or of a refused sheet
 unfoldable pub upcoming : List ℕ → Tally → ℕ → List Step
 upcoming s t zero = lastStep t ∷ []
-upcoming s t (suc m) = quoteStep t (replyAt s (counted t)) ∷ upcoming s (tallied t (replyAt s (counted t))) m
+upcoming s t (suc m) = quoteStep t (replyAt s (tallyCount t)) ∷ upcoming s (tallyWith t (replyAt s (tallyCount t))) m
 
 abbrev pub restOf : List ℕ → Tally → Size → List Step
-restOf s t (quotes n) = upcoming s t (n - counted t)
+restOf s t (quotes n) = upcoming s t (n - tallyCount t)
 restOf s t (refused number count) = refusedStep number ∷ []
 
 unfoldable pub rest : List ℕ → Progress → List Step
@@ -66,7 +59,7 @@ unfolding size upcoming
 rest s (Tallied t) = restOf s t (size s)
 rest s Over = []
 
--- how many: 0 where it is over
+-- how many lines: 0 where the last is printed
 abbrev pub left : List ℕ → Progress → ℕ
 left s p = length (rest s p)
 
@@ -82,10 +75,11 @@ infixr 20 _before_
 abbrev pub _before_ : List ℕ → Part → Part
 text before q = record { text = text ++ q .text; next = q .next }
 
--- of the lines that come after p
+-- of the lines ls, which come after p
 unfoldable pub partOf : ℕ → Progress → List Step → Part
 partOf room p [] = noPart p
-partOf room p (l ∷ ls) = cond (fitsInto (l .text) room) (l .text before partOf (room - length (l .text)) (l .next) ls) (noPart p)
+partOf room p (l ∷ ls) =
+    cond (fitsInto (l .text) room) (l .text before partOf (room - length (l .text)) (l .next) ls) (noPart p)
 
 unfoldable pub part : List ℕ → Progress → ℕ → Part
 unfolding partOf rest
@@ -97,20 +91,16 @@ unfolding part
 parts s p [] = noPart p
 parts s p (room ∷ rooms) = part s p room .text before parts s (part s p room .next) rooms
 
--- each of them holds the longest line
+-- each buffer has room for the longest line
 abbrev pub Roomy : List ℕ → Type 0
 Roomy [] = Unit
 Roomy (room ∷ rooms) = (lineBytes ≤ room) × Roomy rooms
 
 -- ---- a buffer with a part at its start: how many bytes, the progress after them, and the buffer, its other bytes as before
-pub record Filling : Type 0 where
+pub record FilledBuffer : Type 0 where
   pub count : ℕ
   pub next : Progress
   pub buffer : List ℕ
 
-abbrev pub filling : List ℕ → Part → Filling
-filling buffer q = record { count = length (q .text); next = q .next; buffer = overlaid (q .text) buffer }
-
--- what the code hands back of it
-abbrev pub viewFilled : Filled → List ℕ → Filling
-viewFilled r buffer = record { count = r .count; next = r .next; buffer = buffer }
+abbrev pub filledWith : List ℕ → Part → FilledBuffer
+filledWith buffer q = record { count = length (q .text); next = q .next; buffer = overlaid (q .text) buffer }

@@ -1,4 +1,5 @@
--- A sheet: an unsigned count, then for each quote an unsigned side and the doubles price, forward, strike, time; and the text of its answers. Definitions only.
+-- A sheet: an unsigned count, then for each quote an unsigned side and the doubles price, forward, strike, time; and the text of its answers
+-- (REQUIREMENTS 11). Definitions only.
 use Prim.Native.Nat.{ℕ, zero, suc, _+_, _*_}
 use mathlib.Core.Bool.{cond}
 use mathlib.Core.List.{List, [], _++_}
@@ -6,7 +7,7 @@ use lib.Dec.{ltb, eqb}
 use lib.ListN.{length}
 use Rattle.explicit_black.specs.Quote.{Reply, refusal, impliedBlackVolatilityInput}
 use Rattle.xdr_sheet.specs.Xdr.{unsigned, double}
-use Rattle.xdr_sheet.specs.Tally.{emptyTally, tallied}
+use Rattle.xdr_sheet.specs.Tally.{emptyTally, tallyWith}
 use Rattle.xdr_sheet.specs.Text.{line, closing, refusedSheet}
 use Rattle.xdr_sheet.specs.declared.tally.Tally.{Tally}
 
@@ -33,17 +34,17 @@ strikeAt = 20
 abbrev pub timeAt : ℕ
 timeAt = 28
 
--- the bytes of a sheet of n quotes; past so many starts the quote with n before it
+-- how many bytes a sheet of n quotes has: there starts the quote with n before it
 abbrev pub bytesOf : ℕ → ℕ
 bytesOf n = countBytes + quoteBytes * n
 
--- more than any sheet has: of an input no byte after so many is needed
+-- one byte more than the longest sheet: no byte of an input after so many changes its text
 abbrev pub inputBytes : ℕ
 inputBytes = bytesOf maxQuotes + 1
 
 -- ---- its quotes
 
--- how many quotes a sheet has, or the number and count of its refusal
+-- how many quotes a sheet has, or the number and count of the refusal that it is refused with
 pub data Size : Type 0 where
   quotes : ℕ → Size
   refused : ℕ → ℕ → Size
@@ -63,24 +64,25 @@ size s =
 unfoldable pub replyFrom : List ℕ → ℕ → Reply
 unfolding unsigned double
 replyFrom s at =
-    impliedBlackVolatilityInput (unsigned s at) (double s (at + priceAt)) (double s (at + forwardAt)) (double s (at + strikeAt)) (double s (at + timeAt))
+    impliedBlackVolatilityInput (unsigned s at)
+    (double s (at + priceAt)) (double s (at + forwardAt)) (double s (at + strikeAt)) (double s (at + timeAt))
 
 -- the reply of the quote with i quotes before it
 abbrev pub replyAt : List ℕ → ℕ → Reply
 replyAt s i = replyFrom s (bytesOf i)
 
--- what is asked of a quote that the sheet may not have; each quote of a refused sheet is refused as it is
-pub data Quoted : Type 0 where
-  quoted : Reply → Quoted
-  noQuote : Quoted
+-- what a sheet replies to the number of a quote, which it may not have; each quote of a refused sheet is refused as the sheet is
+pub data SheetReply : Type 0 where
+  replied : Reply → SheetReply
+  noQuote : SheetReply
 
-abbrev pub quotedOf : List ℕ → ℕ → Size → Quoted
-quotedOf s i (quotes n) = cond (ltb i n) (quoted (replyAt s i)) noQuote
-quotedOf s i (refused number count) = quoted (refusal number count)
+abbrev pub sheetReplyOf : List ℕ → ℕ → Size → SheetReply
+sheetReplyOf s i (quotes n) = cond (ltb i n) (replied (replyAt s i)) noQuote
+sheetReplyOf s i (refused number count) = replied (refusal number count)
 
-unfoldable pub quotedAt : List ℕ → ℕ → Quoted
+unfoldable pub sheetReply : List ℕ → ℕ → SheetReply
 unfolding size replyFrom
-quotedAt s i = quotedOf s i (size s)
+sheetReply s i = sheetReplyOf s i (size s)
 
 -- ---- its text
 
@@ -93,7 +95,7 @@ lines s (suc n) = lines s n ++ line (suc n) (replyAt s n)
 unfoldable pub tally : List ℕ → ℕ → Tally
 unfolding replyFrom
 tally s zero = emptyTally
-tally s (suc n) = tallied (tally s n) (replyAt s n)
+tally s (suc n) = tallyWith (tally s n) (replyAt s n)
 
 -- all that is printed of a sheet
 abbrev pub textOf : List ℕ → Size → List ℕ

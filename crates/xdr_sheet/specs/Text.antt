@@ -1,21 +1,22 @@
--- Numbers and the lines of a sheet's answers as ASCII text. Definitions only.
+-- Numbers and the lines of a sheet's answers as ASCII text (REQUIREMENTS 11.3), and a text at the start of a buffer. Definitions only.
 use Prim.Native.Nat.{ℕ, zero, suc, _/_}
 use Prim.Native.Char.{code}
 use Prim.Native.String.{String, [] as none, _∷_ as _before_}
-use mathlib.Core.Bool.{cond}
+use mathlib.Core.Bool.{Bool, cond}
 use mathlib.Core.List.{List, [], _∷_, _++_}
-use lib.Dec.{ltb}
+use lib.Dec.{leb, ltb}
 use lib.Ieee.{binary64, toBits}
+use lib.ListN.{length, drop}
 use Rattle.io.specs.Digits.{digits}
 use Rattle.explicit_black.specs.Quote.{Reply, answer, refusal}
 use Rattle.xdr_sheet.specs.declared.tally.Tally.{Tally}
 
--- the bytes of a quoted text
+-- the bytes of a replied text
 abbrev pub ascii : String → List ℕ
 ascii none = []
 ascii (c before s) = code c ∷ ascii s
 
--- no number here has more digits, and no line more bytes
+-- the most digits of a u64 in decimal, those of a pattern, and room for the longest line
 abbrev pub decimalDigits : ℕ
 decimalDigits = 20
 
@@ -42,7 +43,8 @@ hexadecimal b = digits 16 hexadecimalDigits b
 -- after the number of a quote: `V`, the patterns of total and volatility, and count
 unfoldable pub answerFields : ℕ → ℕ → ℕ → List ℕ
 unfolding decimal hexadecimal
-answerFields total volatility count = ascii " V " ++ hexadecimal total ++ ascii " " ++ hexadecimal volatility ++ ascii " " ++ decimal count ++ ascii "\n"
+answerFields total volatility count =
+    ascii " V " ++ hexadecimal total ++ ascii " " ++ hexadecimal volatility ++ ascii " " ++ decimal count ++ ascii "\n"
 
 -- or `R`, refusal and count
 unfoldable pub refusalFields : ℕ → ℕ → List ℕ
@@ -68,3 +70,10 @@ closing t = ascii "T " ++ decimal (t .answers) ++ ascii " " ++ decimal (t .refus
 unfoldable pub refusedSheet : ℕ → List ℕ
 unfolding decimal
 refusedSheet number = ascii "S " ++ decimal number ++ ascii "\n"
+
+-- ---- a text at the start of a buffer: whether it goes into so many bytes, and the buffer with it, its other bytes as before
+abbrev pub fitsInto : List ℕ → ℕ → Bool
+fitsInto text room = leb (length text) room
+
+abbrev pub overlaid : List ℕ → List ℕ → List ℕ
+overlaid text buffer = text ++ drop (length text) buffer

@@ -4,10 +4,11 @@ ghost use Prim.Native.Nat.{_<_};
 ghost use lib.ListN.{length};
 ghost use Rattle.explicit_black.specs.Replies.{viewReply};
 ghost use Rattle.xdr_sheet.specs.Sheet.{maxQuotes};
-ghost use Rattle.xdr_sheet.specs.Tally.{counted};
+ghost use Rattle.xdr_sheet.specs.Tally.{tallyCount};
 ghost use Rattle.xdr_sheet.specs.Text.{letter};
-ghost use Rattle.xdr_sheet.specs.Printing.{start, quoteStep, step, viewPrinted, part, filling, viewFilled};
-use crate::sheet::Asked;
+ghost use Rattle.xdr_sheet.specs.Printing.{start, quoteStep, step, part, filledWith};
+ghost use Rattle.xdr_sheet.specs.Internal.Printing.{viewPrinted, viewFilled};
+use crate::sheet::SheetReply;
 use crate::sheet::Size;
 use crate::sheet::quotes_in;
 use crate::sheet::reply;
@@ -20,7 +21,7 @@ use crate::text::refused_line;
 use crate::text::reply_line;
 use explicit_black::quote::Reply;
 
-// The quotes whose lines are printed, or that the last line is.
+// How many answers and refusals are printed, or that the last line is.
 pub enum Progress {
     Tallied(Tally),
     Over,
@@ -39,7 +40,7 @@ pub struct Filled {
     pub next: Progress,
 }
 
-// Before the first line.
+// The progress before the first line.
 pub fn start() -> Progress
     ensures { λ r. ⌜ r ≡ start ⌝ }
 {
@@ -64,7 +65,7 @@ fn letter(reply: Reply) -> u8
 
 // The line of a quote after those tallied.
 fn quote_line(tally: Tally, reply: Reply) -> Printed
-    requires { ⌜ counted tally < maxQuotes ⌝ }
+    requires { ⌜ tallyCount tally < maxQuotes ⌝ }
     ensures { λ r. ⌜ viewPrinted r ≡ quoteStep tally (viewReply reply) ⌝ }
 {
     let line = reply_line(tally.quotes() + 1, reply);
@@ -83,8 +84,8 @@ pub fn next_line(sheet: &[u8], tally: Tally) -> Printed
 {
     match quotes_in(sheet) {
         Size::Quotes(_) => match reply(sheet, tally.quotes()) {
-            Asked::Replied(reply) => quote_line(tally, reply),
-            Asked::Nothing => {
+            SheetReply::Replied(reply) => quote_line(tally, reply),
+            SheetReply::NoQuote => {
                 let line = closing_line(tally);
                 Printed {
                     line: line,
@@ -106,7 +107,8 @@ pub fn next_line(sheet: &[u8], tally: Tally) -> Printed
 
 // As many whole next lines as the buffer holds, at its start.
 pub fn fill(sheet: &[u8], progress: Progress, out: &mut [u8]) -> Filled
-    ensures { λ r. ⌜ viewFilled r (now (out .exit)) ≡ filling (now (out .entry)) (part (now (sheet .entry)) progress (length (now (out .entry)))) ⌝ }
+    ensures { λ r. ⌜ viewFilled r (now (out .exit))
+        ≡ filledWith (now (out .entry)) (part (now (sheet .entry)) progress (length (now (out .entry)))) ⌝ }
 {
     let mut count: usize = 0;
     let mut next = progress;

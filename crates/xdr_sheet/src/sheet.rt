@@ -4,8 +4,8 @@ ghost use mathlib.Core.Path.{_≡_};
 ghost use Prim.Native.Nat.{_+_, _≤_};
 ghost use lib.ListN.{length};
 ghost use Rattle.explicit_black.specs.Replies.{viewReply};
-ghost use Rattle.xdr_sheet.specs.Sheet.{quoteBytes, size, replyFrom, quotedAt};
-ghost use Rattle.xdr_sheet.specs.Replies.{viewSize, viewAsked};
+ghost use Rattle.xdr_sheet.specs.Sheet.{quoteBytes, size, replyFrom, sheetReply};
+ghost use Rattle.xdr_sheet.specs.Replies.{viewSize, viewSheetReply};
 use crate::xdr::double;
 use crate::xdr::unsigned;
 use explicit_black::quote::Reply;
@@ -20,7 +20,7 @@ const MAX_QUOTES: u32 = 1000;
 // The longest sheet.
 pub const MAX_BYTES: usize = COUNT_BYTES + QUOTE_BYTES * MAX_QUOTES as usize;
 
-// Where the figures of a quote start; its side comes first.
+// Where the figures of a quote start, past its side.
 const PRICE: usize = 4;
 
 const FORWARD: usize = 12;
@@ -29,7 +29,7 @@ const STRIKE: usize = 20;
 
 const TIME: usize = 28;
 
-// How many quotes a sheet has, or the number and count of its refusal.
+// How many quotes a sheet has, or the number and count of the refusal that it is refused with.
 pub enum Size {
     Quotes(u32),
     Refusal { number: u32, count: u64 },
@@ -40,10 +40,10 @@ const NO_SHEET: Size = Size::Refusal {
     count: 0,
 };
 
-// A quote's reply, or that the sheet has no such quote.
-pub enum Asked {
+// What a sheet replies to the number of a quote: the quote's reply, or that it has no such quote.
+pub enum SheetReply {
     Replied(Reply),
-    Nothing,
+    NoQuote,
 }
 
 // Too short for a count, too many quotes, or not as long as their count says: refused.
@@ -77,18 +77,19 @@ fn quote(sheet: &[u8], at: usize) -> Reply
     implied_black_volatility_input(side, price, forward, strike, time)
 }
 
-// The reply of the quote with `index` quotes before it. Each quote of a refused sheet is refused as it is.
-pub fn reply(sheet: &[u8], index: u64) -> Asked
-    ensures { λ r. ⌜ viewAsked r ≡ quotedAt (now (sheet .entry)) index ⌝ }
+// The reply of the quote with `index` quotes before it. Each quote of a refused sheet is refused as the sheet is.
+pub fn reply(sheet: &[u8], index: u64) -> SheetReply
+    ensures { λ r. ⌜ viewSheetReply r ≡ sheetReply (now (sheet .entry)) index ⌝ }
 {
     match quotes_in(sheet) {
         Size::Quotes(count) => {
             if index < count as u64 {
-                return Asked::Replied(quote(sheet, COUNT_BYTES + QUOTE_BYTES * (index as usize)));
+                let at = COUNT_BYTES + QUOTE_BYTES * (index as usize);
+                return SheetReply::Replied(quote(sheet, at));
             }
-            Asked::Nothing
+            SheetReply::NoQuote
         }
-        Size::Refusal { number, count } => Asked::Replied(Reply::Refusal {
+        Size::Refusal { number, count } => SheetReply::Replied(Reply::Refusal {
             number: number,
             count: count,
         }),

@@ -1,9 +1,9 @@
-// How many quotes are answered and how many refused.
+// A tally of a sheet's first quotes: how many are answered and how many refused.
 ghost use mathlib.Core.Path.{_≡_};
 ghost use Prim.Native.Nat.{_<_};
 ghost use Rattle.explicit_black.specs.Replies.{viewReply};
 ghost use Rattle.xdr_sheet.specs.Sheet.{maxQuotes};
-ghost use Rattle.xdr_sheet.specs.Tally.{emptyTally, tallied, counted};
+ghost use Rattle.xdr_sheet.specs.Tally.{emptyTally, tallyWith, tallyCount};
 use explicit_black::quote::Reply;
 
 pub struct Tally {
@@ -21,17 +21,17 @@ impl Tally {
         }
     }
 
-    // How many quotes it is of.
+    // How many quotes are tallied.
     pub(crate) fn quotes(self) -> u64
-        ensures { λ r. ⌜ r ≡ counted self ⌝ }
+        ensures { λ r. ⌜ r ≡ tallyCount self ⌝ }
     {
         self.answers as u64 + self.refusals as u64
     }
 
-    // One quote more.
+    // The tally with one quote more, by its reply.
     pub(crate) fn with(self, reply: Reply) -> Tally
-        requires { ⌜ counted self < maxQuotes ⌝ }
-        ensures { λ r. ⌜ r ≡ tallied self (viewReply reply) ⌝ }
+        requires { ⌜ tallyCount self < maxQuotes ⌝ }
+        ensures { λ r. ⌜ r ≡ tallyWith self (viewReply reply) ⌝ }
     {
         match reply {
             Reply::Answer {

@@ -1,4 +1,4 @@
-// A line of text, built by value: at most 78 bytes, two numbers of 20 digits, two of 16 and six more.
+// A line of text, built by value. The longest has 78 bytes: two numbers of 20 digits, two of 16, and six bytes between and after them.
 ghost use mathlib.Core.Path.{_≡_};
 ghost use mathlib.Core.List.{_∷_, [], _++_};
 ghost use Prim.Native.Nat.{_+_, _≤_, _<_};
@@ -7,7 +7,7 @@ ghost use lib.Ieee.{binary64, toBits};
 ghost use Rattle.explicit_black.specs.Replies.{viewReply};
 ghost use Rattle.xdr_sheet.specs.Text.{lineBytes, decimalDigits, hexadecimalDigits};
 ghost use Rattle.xdr_sheet.specs.Text.{decimal, hexadecimal, answerFields, refusalFields, line, closing, refusedSheet};
-ghost use Rattle.xdr_sheet.specs.Internal.Lines.{written, Extended, placed, placing};
+ghost use Rattle.xdr_sheet.specs.Internal.Lines.{written, Extended, bytesPlaced, bufferAfter};
 use crate::tally::Tally;
 use explicit_black::quote::Reply;
 
@@ -17,7 +17,9 @@ const DECIMAL_DIGITS: usize = 20;
 
 const HEXADECIMAL_DIGITS: usize = 16;
 
-// Its text is the first `length` of the bytes; the others are of no account.
+const QUIET_NAN: u64 = 0x7ff8_0000_0000_0000;
+
+// Its text is the first `length` of the bytes; those after it are no part of the line, whatever they are.
 pub struct Line {
     pub bytes: [u8; LINE_BYTES],
     pub length: usize,
@@ -121,12 +123,12 @@ impl Line {
     }
 }
 
-// The pattern of x. No answer holds a NaN; its pattern is the quiet one.
+// The pattern of x. NaN has many, and no answer holds one: here it is the quiet one.
 fn pattern(x: f64) -> u64
     ensures { λ r. ⌜ r ≡ toBits binary64 x ⌝ }
 {
     if x != x {
-        return 0x7ff8_0000_0000_0000;
+        return QUIET_NAN;
     }
     f64::to_bits(x)
 }
@@ -149,7 +151,7 @@ pub fn reply_line(number: u64, reply: Reply) -> Line
     }
 }
 
-// The last line.
+// The last line: how many quotes are answered and refused.
 pub fn closing_line(tally: Tally) -> Line
     ensures { λ r. ⌜ written r ≡ closing tally ⌝ }
 {
@@ -173,7 +175,8 @@ pub fn refused_line(number: u32) -> Line
 
 // Puts a line at the start of a lent buffer.
 pub fn place(line: Line, out: &mut [u8]) -> Placed
-    ensures { λ r. ⌜ (r ≡ placed (written line) (now (out .entry))) × (now (out .exit) ≡ placing (written line) (now (out .entry))) ⌝ }
+    ensures { λ r. ⌜ (r ≡ bytesPlaced (written line) (now (out .entry)))
+        × (now (out .exit) ≡ bufferAfter (written line) (now (out .entry))) ⌝ }
 {
     let count = line.count();
     if out.len() < count {

@@ -1,9 +1,20 @@
-// Words of XDR (RFC 4506), the highest byte first.
+// Words of XDR (RFC 4506), the highest byte first. Where their bytes are not all there, 0 is read.
 ghost use mathlib.Core.Path.{_≡_};
 ghost use Prim.Native.Nat.{_+_, _≤_, _<_, _^_};
 ghost use lib.ListN.{length};
 ghost use lib.Ieee.{binary64, ofBits};
-ghost use Rattle.xdr_sheet.specs.Xdr.{unsigned, double};
+ghost use Rattle.xdr_sheet.specs.Xdr.{word, there, unsigned, hyper, double};
+use arithmetic::format::INFINITY;
+use arithmetic::format::SIGN;
+
+const WORD_BYTES: usize = 4;
+
+const HYPER_BYTES: usize = 8;
+
+// How many values a byte has, and a word.
+const BYTE_VALUES: u64 = 0x100;
+
+const WORD_VALUES: u64 = 0x1_0000_0000;
 
 fn wide(byte: u8) -> u64
     ensures { λ r. ⌜ (r ≡ byte) × (r < 256) ⌝ }
@@ -11,34 +22,57 @@ fn wide(byte: u8) -> u64
     byte as u64
 }
 
-// The four bytes from `at` on.
-pub(crate) fn word(s: &[u8], at: usize) -> u64
+fn word(s: &[u8], at: usize) -> u64
     requires { ⌜ at + 4 ≤ length (now s) ⌝ }
-    ensures { λ r. ⌜ (r ≡ unsigned (now (s .entry)) at) × (r < 2 ^ 32) ⌝ }
+    ensures { λ r. ⌜ (r ≡ word (now (s .entry)) at) × (r < 2 ^ 32) ⌝ }
 {
-    wide(s[at]) * 16777216 + wide(s[at + 1]) * 65536 + wide(s[at + 2]) * 256 + wide(s[at + 3])
+    let high = wide(s[at]) * BYTE_VALUES + wide(s[at + 1]);
+    (high * BYTE_VALUES + wide(s[at + 2])) * BYTE_VALUES + wide(s[at + 3])
 }
 
-pub(crate) fn unsigned(s: &[u8], at: usize) -> u32
-    requires { ⌜ at + 4 ≤ length (now s) ⌝ }
+// Whether `count` bytes are there from `at` on.
+fn there(s: &[u8], at: usize, count: usize) -> bool
+    ensures { λ r. ⌜ r ≡ there (now (s .entry)) at count ⌝ }
+{
+    if s.len() < at {
+        return false;
+    }
+    count <= s.len() - at
+}
+
+// An unsigned integer, in a word.
+pub fn unsigned(s: &[u8], at: usize) -> u32
     ensures { λ r. ⌜ r ≡ unsigned (now (s .entry)) at ⌝ }
 {
-    word(s, at) as u32
+    if there(s, at, WORD_BYTES) {
+        return word(s, at) as u32;
+    }
+    0
 }
 
-// The value of a pattern. `from_bits` is not defined on those of NaN, which arithmetic makes here.
+// An unsigned hyper integer, in two words.
+fn hyper(s: &[u8], at: usize) -> u64
+    ensures { λ r. ⌜ r ≡ hyper (now (s .entry)) at ⌝ }
+{
+    if there(s, at, HYPER_BYTES) {
+        return word(s, at) * WORD_VALUES + word(s, at + WORD_BYTES);
+    }
+    0
+}
+
+// The value of a pattern. `from_bits` is not defined on the patterns of NaN: a NaN is made by arithmetic.
 pub fn value(bits: u64) -> f64
     ensures { λ r. ⌜ r ≡ ofBits binary64 bits ⌝ }
 {
-    if bits % 0x8000_0000_0000_0000 > 0x7ff0_0000_0000_0000 {
+    if bits % SIGN > INFINITY {
         return 0.0 / 0.0;
     }
     f64::from_bits(bits)
 }
 
-pub(crate) fn double(s: &[u8], at: usize) -> f64
-    requires { ⌜ at + 8 ≤ length (now s) ⌝ }
+// A double: the value of the pattern in two words.
+pub fn double(s: &[u8], at: usize) -> f64
     ensures { λ r. ⌜ r ≡ double (now (s .entry)) at ⌝ }
 {
-    value(word(s, at) * 4294967296 + word(s, at + 4))
+    value(hyper(s, at))
 }

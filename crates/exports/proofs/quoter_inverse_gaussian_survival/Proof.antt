@@ -8,15 +8,18 @@ use Rattle.exports.proofs.quoter_inverse_gaussian_survival.Tie as tie
 
 returns : tie.Need-returns
 returns c =
-    let at-curve = c .before .before .before in
-    let start = at-curve .before .before in
-    first-value _ (at-curve .before .new .ensures) (sym (ap (viewSurvivalEvaluation (start .args .x)) (c .before .survival .given .1)) ∙ at-curve .inverse-gaussian-survival .ensures)
+    let has-value = c .before in
+    let at-curve = has-value .before .before in
+    let allowed = at-curve .before in
+    let view = viewSurvivalEvaluation (allowed .before .args .x) in
+    first-value _ (allowed .new .ensures) (sym (ap view (has-value .survival .given .1)) ∙ at-curve .inverse-gaussian-survival .ensures)
 
 returns-2 : tie.Need-returns-2
 returns-2 c =
     let at-curve = c .before .before in
-    let start = at-curve .before .before in
-    absurd (first-spent _ (at-curve .before .new .ensures) (sym (ap (viewSurvivalEvaluation (start .args .x)) (c .enum-told .given .1)) ∙ at-curve .inverse-gaussian-survival .ensures))
+    let allowed = at-curve .before in
+    let view = viewSurvivalEvaluation (allowed .before .args .x) in
+    absurd (first-spent _ (allowed .new .ensures) (sym (ap view (c .enum-told .given .1)) ∙ at-curve .inverse-gaussian-survival .ensures))
 
 pub quoter-inverse-gaussian-survival-spec : {M : Type 1} → statement M
 quoter-inverse-gaussian-survival-spec =

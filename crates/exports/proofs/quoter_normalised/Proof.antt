@@ -1,11 +1,14 @@
--- The entry's reply is handed on. Assumes nothing.
+-- Straight: the entry's reply is handed on. Assumes nothing.
 use mathlib.Core.Path.{ap, _∙_}
-use Rattle.exports.specs.Handed.{handing}
+use Rattle.exports.specs.ToC.{replyToC}
 use Rattle.exports.proofs.quoter_normalised.Statement.{statement}
 use Rattle.exports.proofs.quoter_normalised.Tie as tie
 
 returns : tie.Need-returns
-returns c = c .hand .ensures ∙ ap (handing _ _) (c .before .before .before .before .implied-black-volatility-normalised .ensures)
+returns c =
+    let places-lent = c .before .before in
+    let at-entry = places-lent .before .before in
+    c .hand .ensures ∙ ap (replyToC _ _) (at-entry .implied-black-volatility-normalised .ensures)
 
 pub quoter-normalised-spec : {M : Type 1} → statement M
 quoter-normalised-spec = tie.close (tie.spec (λ c κs. tt) (λ c κs. tt) returns)

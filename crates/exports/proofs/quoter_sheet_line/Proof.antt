@@ -5,22 +5,36 @@ use borrow.Author.Needs.{needs}
 use Rattle.exports.proofs.quoter_sheet_line.Statement.{statement}
 use Rattle.exports.proofs.quoter_sheet_line.Tie as tie
 
+-- back from the match on what `place` said to that call, to the line's making, and to the start
+abbrev at-place : tie.After-slice-known2 → tie.After-place
+at-place k = k .before .before
+
+abbrev at-line : tie.After-place → tie.After-next-line
+at-line w =
+    let line-taken = w .before .before in
+    line-taken .before
+
+abbrev entry : tie.After-next-line → tie.Start
+entry n =
+    let buffers-known = n .before in
+    buffers-known .before .before
+
 returns : tie.Need-returns
 returns c =
-    let b = c .before .before in
-    let k = b .before .before in
-    let w = k .before .before in
-    let n = w .before .before .before in
-    let a = n .before .before .before .args in
-    line-put (a .count .now) (a .text .now) (n .next-line .ensures) _ _ (sym (b .bytes .given .1) ∙ w .place .ensures .0) (w .place .ensures .1)
+    let has-room = c .before .before in
+    let w = at-place (has-room .before .before) in
+    let n = at-line w in
+    let a = entry n .args in
+    line-put (a .count .now) (a .text .now) (n .next-line .ensures) _ _
+    (sym (has-room .bytes .given .1) ∙ w .place .ensures .0) (w .place .ensures .1)
 
 returns-2 : tie.Need-returns-2
 returns-2 c =
-    let k = c .before .before in
-    let w = k .before .before in
-    let n = w .before .before .before in
-    let a = n .before .before .before .args in
-    line-not-put (a .count .now) (a .text .now) (n .next-line .ensures) _ (sym (c .enum-told .given .1) ∙ w .place .ensures .0) (w .place .ensures .1)
+    let w = at-place (c .before .before) in
+    let n = at-line w in
+    let a = entry n .args in
+    line-not-put (a .count .now) (a .text .now) (n .next-line .ensures) _
+    (sym (c .enum-told .given .1) ∙ w .place .ensures .0) (w .place .ensures .1)
 
 pub quoter-sheet-line-spec : {M : Type 1} → statement M
 quoter-sheet-line-spec =

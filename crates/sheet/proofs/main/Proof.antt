@@ -7,7 +7,9 @@ use Rattle.sheet.proofs.main.Tie as tie
 
 slice-aggregate-print : tie.Need-slice-aggregate-print
 slice-aggregate-print c =
-    let r = c .before .before .before .read-sheet in
+    let not-failed = c .before in
+    let at-input = not-failed .before .before in
+    let r = at-input .read-sheet in
     sym (length-take-le (r .result .count) (r .last .0) (search needs))
 
 pub main-spec : {M : Type 1} → statement M

@@ -16,12 +16,12 @@ Inv-loop sheet out₀ progress₀ out progress = length out ≡ 4096
 abbrev μ-loop : tie.MeasureT-loop
 μ-loop sheet out₀ progress₀ out progress = left sheet progress
 
--- a turn of the loop starts, at the loop's head
-abbrev turn : tie.After-fill Inv-loop μ-loop → tie.After-enum-told Inv-loop μ-loop
-turn f = f .before .before
+-- back from `fill` to the match on the progress, and to the loop's head
+abbrev at-tally : tie.After-fill Inv-loop μ-loop → tie.After-enum-told Inv-loop μ-loop
+at-tally f = f .before .before
 
 abbrev head : tie.After-fill Inv-loop μ-loop → tie.At-loop Inv-loop μ-loop
-head f = turn f .before .before
+head f = at-tally f .before .before
 
 -- what was filled is within the buffer
 within : (f : tie.After-fill Inv-loop μ-loop) → f .fill .result .count ≤ length (f .fill .last .1 .1 .0)
@@ -37,9 +37,9 @@ slice-aggregate-write-all c =
 
 loop-less : tie.Need-loop-less Inv-loop μ-loop
 loop-less c =
-    let w = c .before .before in
-    let f = w .before .before in
-    fill-falls _ _ (head f .loop .out) (f .fill .result) _ (f .fill .ensures) (turn f .enum-told .given .1) (omega arith)
+    let lent = c .before .before in
+    let f = lent .before .before in
+    fill-falls _ _ (head f .loop .out) (f .fill .result) _ (f .fill .ensures) (at-tally f .enum-told .given .1) (omega arith)
 
 pub print-spec : {M : Type 1} → statement M
 print-spec =

@@ -1,13 +1,13 @@
--- `vectors::main` ends: its turns are counted down. Assumes nothing.
+-- The program ends: records are counted down. Assumes nothing.
 use borrow.Author.Needs.{needs}
 use Rattle.vectors.proofs.main.Statement.{statement}
 use Rattle.vectors.proofs.main.Tie as tie
 
 abbrev Inv-loop : tie.InvT-loop
-Inv-loop turns₀ turns = Unit
+Inv-loop records₀ records = Unit
 
 abbrev μ-loop : tie.MeasureT-loop
-μ-loop turns₀ turns = turns
+μ-loop records₀ records = records
 
 pub main-spec : {M : Type 1} → statement M
 main-spec =

@@ -1,10 +1,10 @@
--- What the contracts of lines in memory cite. Definitions only.
+-- A line in memory: its text, how it grows, and what is said of a buffer that it is put into. Definitions only.
 use mathlib.Core.Path.{_≡_}
 use Prim.Native.Nat.{ℕ, _+_}
-use mathlib.Core.Bool.{Bool, cond}
+use mathlib.Core.Bool.{cond}
 use mathlib.Core.List.{List, _++_}
-use lib.Dec.{leb}
-use lib.ListN.{length, take, drop}
+use lib.ListN.{length, take}
+use Rattle.xdr_sheet.specs.Text.{fitsInto, overlaid}
 use Rattle.xdr_sheet.specs.declared.text.Line.{Line}
 use Rattle.xdr_sheet.specs.declared.text.Placed.{Placed}
 use Rattle.xdr_sheet.specs.declared.text.Placed.the-variants.{Bytes, NoRoom}
@@ -18,17 +18,9 @@ pub record Extended (l : Line) (more : List ℕ) (r : Line) : Type 0 where
   pub text : written r ≡ written l ++ more
   pub count : r .length ≡ l .length + length more
 
--- whether a text goes into so many bytes
-abbrev pub fitsInto : List ℕ → ℕ → Bool
-fitsInto text room = leb (length text) room
+-- a text is put at the start of a buffer if it fits: how many bytes that were, and the buffer after it
+unfoldable pub bytesPlaced : List ℕ → List ℕ → Placed
+bytesPlaced text buffer = cond (fitsInto text (length buffer)) (Bytes (length text)) NoRoom
 
--- a buffer with a text at its start, its other bytes as before
-abbrev pub overlaid : List ℕ → List ℕ → List ℕ
-overlaid text buffer = text ++ drop (length text) buffer
-
--- a text is put there if it fits: how many bytes, and the buffer afterwards
-unfoldable pub placed : List ℕ → List ℕ → Placed
-placed text buffer = cond (fitsInto text (length buffer)) (Bytes (length text)) NoRoom
-
-unfoldable pub placing : List ℕ → List ℕ → List ℕ
-placing text buffer = cond (fitsInto text (length buffer)) (overlaid text buffer) buffer
+unfoldable pub bufferAfter : List ℕ → List ℕ → List ℕ
+bufferAfter text buffer = cond (fitsInto text (length buffer)) (overlaid text buffer) buffer

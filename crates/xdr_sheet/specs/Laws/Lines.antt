@@ -1,4 +1,4 @@
--- No line has more than `lineBytes` bytes; a text at the start of a buffer. Assumes nothing.
+-- No line has more than `lineBytes` bytes; what follows from whether a text was put at the start of a buffer. Assumes nothing.
 use mathlib.Core.Path.{_≡_, refl, _∙_}
 use Prim.Native.Nat.{ℕ, zero, suc, _+_, _/_, _%_, _≤_, _<_}
 use native.Mathlib.Omega.{arith}
@@ -8,17 +8,15 @@ use lib.Dec.{T, ltb, lit≤, leb→le, nleb→lt}
 use lib.Ieee.{binary64, toBits}
 use lib.ListN.{length, length-append}
 use Rattle.io.specs.Digits.{digits, glyph}
+use Rattle.arithmetic.specs.Laws.Choices.{in-both, never}
 use Rattle.explicit_black.specs.Quote.{Reply, answer, refusal}
-use Rattle.xdr_sheet.specs.Text.{decimalDigits, hexadecimalDigits, lineBytes, places, decimal, hexadecimal, line, closing, refusedSheet}
-use Rattle.xdr_sheet.specs.Internal.Lines.{fitsInto, overlaid, placed, placing}
+use Rattle.xdr_sheet.specs.Text.{decimalDigits, hexadecimalDigits, lineBytes, places, decimal, hexadecimal}
+use Rattle.xdr_sheet.specs.Text.{line, closing, refusedSheet, fitsInto, overlaid}
+use Rattle.xdr_sheet.specs.Internal.Lines.{bytesPlaced, bufferAfter}
 use Rattle.xdr_sheet.specs.declared.tally.Tally.{Tally}
 use Rattle.xdr_sheet.specs.declared.text.Placed.the-variants.{Bytes, NoRoom}
 
--- two constructors are never equal
-pub never : {A : Type 0} → _≡_ {A = ℕ} 0 1 → A
-never z = absurd (omega arith)
-
--- ---- numbers
+-- ---- how many digits a number has
 length-digits : (b k n : ℕ) → length (digits b k n) ≡ k
 length-digits b zero n = refl
 length-digits b (suc k) n =
@@ -28,11 +26,7 @@ length-digits b (suc k) n =
 pub few-places : (f n : ℕ) → places f n ≤ suc f
 unfolding places
 few-places zero n = lit≤ tt
-few-places (suc f) n = go (ltb n 10) (few-places f (n / 10))
-  where
-    go : (b : Bool) → places f (n / 10) ≤ suc f → cond b 1 (suc (places f (n / 10))) ≤ suc (suc f)
-    go true h = omega arith
-    go false h = omega arith
+few-places (suc f) n = in-both (λ (k : ℕ). k ≤ suc (suc f)) (ltb n 10) (omega arith) (omega (arith, few-places f (n / 10)))
 
 decimal-short : (n : ℕ) → length (decimal n) ≤ decimalDigits
 unfolding decimal
@@ -42,13 +36,20 @@ hexadecimal-short : (n : ℕ) → length (hexadecimal n) ≤ hexadecimalDigits
 unfolding hexadecimal
 hexadecimal-short n = omega (arith, length-digits 16 hexadecimalDigits n)
 
--- ---- lines
+-- ---- how long a line is
 pub line-short : (number : ℕ) (r : Reply) → length (line number r) ≤ lineBytes
 unfolding line
 line-short number (answer total volatility count) =
     simp length-append
-    (omega (arith, decimal-short number, hexadecimal-short (toBits binary64 total), hexadecimal-short (toBits binary64 volatility), decimal-short count))
-line-short number (refusal reason count) = simp length-append (omega (arith, decimal-short number, decimal-short reason, decimal-short count))
+    (omega (
+      arith,
+      decimal-short number,
+      hexadecimal-short (toBits binary64 total),
+      hexadecimal-short (toBits binary64 volatility),
+      decimal-short count,
+    ))
+line-short number (refusal reason count) =
+    simp length-append (omega (arith, decimal-short number, decimal-short reason, decimal-short count))
 
 pub closing-short : (t : Tally) → length (closing t) ≤ lineBytes
 unfolding closing
@@ -58,20 +59,21 @@ pub refused-short : (number : ℕ) → length (refusedSheet number) ≤ lineByte
 unfolding refusedSheet
 refused-short number = simp length-append (omega (arith, decimal-short number))
 
--- ---- what was said of a text put at the start of a buffer
+-- ---- a text was put at the start of a buffer, or had no room there
 module _ (text buffer : List ℕ) where
-  pub placed-bytes : (n : ℕ) → Bytes n ≡ placed text buffer → (n ≡ length text) × (length text ≤ length buffer) × (placing text buffer ≡ overlaid text buffer)
-  unfolding placed placing
-  placed-bytes n e = go (fitsInto text (length buffer)) (leb→le (length text) (length buffer)) e
+  pub bytes-placed : (n : ℕ) → Bytes n ≡ bytesPlaced text buffer
+      → (n ≡ length text) × (length text ≤ length buffer) × (bufferAfter text buffer ≡ overlaid text buffer)
+  unfolding bytesPlaced bufferAfter
+  bytes-placed n e = go (fitsInto text (length buffer)) (leb→le (length text) (length buffer)) e
     where
       go : (b : Bool) → (T b → length text ≤ length buffer) → Bytes n ≡ cond b (Bytes (length text)) NoRoom
           → (n ≡ length text) × (length text ≤ length buffer) × (cond b (overlaid text buffer) buffer ≡ overlaid text buffer)
       go true h e = (cc, h tt, refl)
       go false h e = never (cc)
 
-  pub placed-none : NoRoom ≡ placed text buffer → (length buffer < length text) × (placing text buffer ≡ buffer)
-  unfolding placed placing
-  placed-none e = go (fitsInto text (length buffer)) (nleb→lt (length text) (length buffer)) e
+  pub none-placed : NoRoom ≡ bytesPlaced text buffer → (length buffer < length text) × (bufferAfter text buffer ≡ buffer)
+  unfolding bytesPlaced bufferAfter
+  none-placed e = go (fitsInto text (length buffer)) (nleb→lt (length text) (length buffer)) e
     where
       go : (b : Bool) → (T (not b) → length buffer < length text) → NoRoom ≡ cond b (Bytes (length text)) NoRoom
           → (length buffer < length text) × (cond b (overlaid text buffer) buffer ≡ buffer)

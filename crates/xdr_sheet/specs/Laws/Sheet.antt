@@ -1,21 +1,22 @@
--- What the tests of a sheet's length and count say of its size. Assumes nothing.
+-- A sheet's size by the tests of its length and count, a quote's reply by its number, and how much of an input matters. Assumes nothing.
 use mathlib.Core.Path.{_≡_, refl, sym, ap, _∙_}
 use Prim.Native.Nat.{ℕ, _+_, _≤_, _<_}
 use mathlib.Core.Bool.{Bool, true, false, not, cond}
 use mathlib.Core.List.{List}
-use borrow.Author.Tests.{lt-ltb, le-ltb, eq-eqb, ne-eqb}
+use borrow.Author.Tests.{lt-ltb, le-ltb, eq-eqb, ne-eqb, ltb-true, ltb-false, eqb-true}
 use native.Mathlib.Nat.{lt-of-lt-of-le}
 use native.Mathlib.Omega.{arith}
-use lib.Dec.{T, leb, ltb, eqb, leb→le, nleb→lt, ltb→lt, nltb→le, eqb→eq}
+use lib.Dec.{T, leb, ltb, eqb, leb→le, nleb→lt, ltb→lt, nltb→le}
 use lib.ListN.{length, take}
 use lib.Seq.{take-all, length-take-le}
 use lib.Ieee.{Float}
+use Rattle.arithmetic.specs.Laws.Choices.{by-test, never}
 use Rattle.explicit_black.specs.Quote.{Reply, refusal, impliedBlackVolatilityInput}
 use Rattle.xdr_sheet.specs.Xdr.{unsigned, double}
 use Rattle.xdr_sheet.specs.Sheet.{countBytes, quoteBytes, maxQuotes, priceAt, forwardAt, strikeAt, timeAt, bytesOf, inputBytes}
-use Rattle.xdr_sheet.specs.Sheet.{Size, quotes, refused, noSheet, size, quotedAt, noQuote, quoted, replyFrom, replyAt, text}
-use Rattle.xdr_sheet.specs.Laws.Lines.{never}
+use Rattle.xdr_sheet.specs.Sheet.{Size, quotes, refused, noSheet, size, SheetReply, sheetReply, noQuote, replied, replyFrom, replyAt, text}
 
+-- ---- the size by the tests: too short for a count, too many quotes, as long as their count says
 abbrev picked : Bool → Bool → Bool → ℕ → Size
 picked short many whole n = cond short noSheet (cond many noSheet (cond whole (quotes n) noSheet))
 
@@ -40,57 +41,58 @@ size-short s h = rw (lt-ltb (length s) countBytes h)
 -- ---- a sheet of n quotes: how many there may be, and how long it is
 sizes : (s : List ℕ) (n : ℕ) → quotes n ≡ size s → (n ≤ maxQuotes) × (length s ≡ bytesOf n)
 sizes s n e =
-    go (ltb (length s) countBytes) (ltb maxQuotes u) (eqb (length s) (bytesOf u)) (nltb→le maxQuotes u) (eqb→eq (length s) (bytesOf u)) (e ∙ size-by s u refl)
+    by-test P (ltb (length s) countBytes) (λ _ p. never (cc))
+    (λ _. by-test P (ltb maxQuotes u) (λ _ p. never (cc))
+    (λ few. by-test P (eqb (length s) (bytesOf u)) (whole few) (λ _ p. never (cc)))) (e ∙ size-by s u refl)
   where
     u : ℕ
     u = unsigned s 0
 
-    go : (a b w : Bool) → (T (not b) → u ≤ maxQuotes) → (T w → length s ≡ bytesOf u) → quotes n ≡ picked a b w u → (n ≤ maxQuotes) × (length s ≡ bytesOf n)
-    go true b w h g p = never (cc)
-    go false true w h g p = never (cc)
-    go false false false h g p = never (cc)
-    go false false true h g p =
-        let i : n ≡ u = cc in
-        rw i (h tt, g tt)
+    P : Size → Type 0
+    P z = quotes n ≡ z → (n ≤ maxQuotes) × (length s ≡ bytesOf n)
 
-pub size-count : (s : List ℕ) (n : ℕ) → quotes n ≡ size s → n ≤ maxQuotes
+    whole : ltb maxQuotes u ≡ false → eqb (length s) (bytesOf u) ≡ true → P (quotes u)
+    whole few same p =
+        let i : n ≡ u = cc in
+        rw i (ltb-false maxQuotes u few, eqb-true (length s) (bytesOf u) same)
+
+size-count : (s : List ℕ) (n : ℕ) → quotes n ≡ size s → n ≤ maxQuotes
 size-count s n e = sizes s n e .0
 
-pub size-length : (s : List ℕ) (n : ℕ) → quotes n ≡ size s → length s ≡ bytesOf n
+size-length : (s : List ℕ) (n : ℕ) → quotes n ≡ size s → length s ≡ bytesOf n
 size-length s n e = sizes s n e .1
 
 -- ---- a quote of a sheet
 pub reply-from : (s : List ℕ) (at side : ℕ) (p f k t : Float) {r : Reply}
-    → side ≡ unsigned s at → p ≡ double s (at + priceAt) → f ≡ double s (at + forwardAt) → k ≡ double s (at + strikeAt) → t ≡ double s (at + timeAt)
+    → side ≡ unsigned s at → p ≡ double s (at + priceAt) → f ≡ double s (at + forwardAt)
+    → k ≡ double s (at + strikeAt) → t ≡ double s (at + timeAt)
     → r ≡ impliedBlackVolatilityInput side p f k t → r ≡ replyFrom s at
 unfolding replyFrom
 reply-from s at side p f k t a b c d e h = h ∙ rw (a, b, c, d, e)
 
-pub quote-none : (s : List ℕ) (i number count : ℕ) → refused number count ≡ size s → quoted (refusal number count) ≡ quotedAt s i
-unfolding quotedAt
+pub quote-none : (s : List ℕ) (i number count : ℕ) → refused number count ≡ size s → replied (refusal number count) ≡ sheetReply s i
+unfolding sheetReply
 quote-none s i number count e = rw (← e)
 
 module _ (s : List ℕ) (n i : ℕ) (e : quotes n ≡ size s) where
   pub quote-within : i < n → bytesOf i + quoteBytes ≤ length s
   quote-within h = omega (arith, size-length s n e)
 
-  pub quote-there : i < n → quoted (replyAt s i) ≡ quotedAt s i
-  unfolding quotedAt
+  pub quote-there : i < n → replied (replyAt s i) ≡ sheetReply s i
+  unfolding sheetReply
   quote-there h = rw (← e, lt-ltb i n h)
 
-  pub quote-past : n ≤ i → noQuote ≡ quotedAt s i
-  unfolding quotedAt
+  pub quote-past : n ≤ i → noQuote ≡ sheetReply s i
+  unfolding sheetReply
   quote-past h = rw (← e, le-ltb i n h)
 
-  pub quote-below : (r : Reply) → quoted r ≡ quotedAt s i → i < maxQuotes
-  unfolding quotedAt
-  quote-below r q = go (ltb i n) (ltb→lt i n) (rw (← e) at q)
-    where
-      go : (b : Bool) → (T b → i < n) → quoted r ≡ cond b (quoted (replyAt s i)) noQuote → i < maxQuotes
-      go true h q = lt-of-lt-of-le (h tt) (size-count s n e)
-      go false h q = never (cc)
+  pub quote-below : (r : Reply) → replied r ≡ sheetReply s i → i < maxQuotes
+  unfolding sheetReply
+  quote-below r q =
+      by-test (λ (z : SheetReply). replied r ≡ z → i < maxQuotes) (ltb i n)
+      (λ below p. lt-of-lt-of-le (ltb-true i n below) (size-count s n e)) (λ _ p. never (cc)) (rw (← e) at q)
 
--- ---- of a longer input than any sheet no byte after `inputBytes` changes the text
+-- ---- an input longer than any sheet is refused: no byte after `inputBytes` changes the text
 long-refused : (s : List ℕ) → inputBytes ≤ length s → noSheet ≡ size s
 long-refused s h = go (ltb maxQuotes (unsigned s 0)) (ltb→lt maxQuotes (unsigned s 0)) (nltb→le maxQuotes (unsigned s 0))
   where

@@ -13,53 +13,55 @@ Inv-loop sheet out₀ count₀ next₀ out count next = Sofar sheet next₀ out�
 abbrev μ-loop : tie.MeasureT-loop
 μ-loop sheet out₀ count₀ next₀ out count next = left sheet next
 
--- a line is put into the buffer; before that come its making, the turn's start and the loop's head
-abbrev put : tie.After-slice-known2 Inv-loop μ-loop → tie.After-place Inv-loop μ-loop
-put k = k .before .before
+-- back from the match on what `place` said to that call, to the line's making, to the match on the progress, and to the loop's head
+abbrev at-place : tie.After-slice-known2 Inv-loop μ-loop → tie.After-place Inv-loop μ-loop
+at-place k = k .before .before
 
-abbrev made : tie.After-place Inv-loop μ-loop → tie.After-next-line Inv-loop μ-loop
-made w = w .before .before .before
+abbrev at-line : tie.After-place Inv-loop μ-loop → tie.After-next-line Inv-loop μ-loop
+at-line w =
+    let line-taken = w .before .before in
+    line-taken .before
 
-abbrev turn : tie.After-place Inv-loop μ-loop → tie.After-next Inv-loop μ-loop
-turn w = made w .before .before
+abbrev at-tally : tie.After-place Inv-loop μ-loop → tie.After-next Inv-loop μ-loop
+at-tally w = at-line w .before .before
 
 abbrev head : tie.After-place Inv-loop μ-loop → tie.At-loop Inv-loop μ-loop
-head w = turn w .before .before
+head w = at-tally w .before .before
 
 loop-holds : tie.Need-loop-holds Inv-loop μ-loop
 loop-holds c = nothing-yet _ _ _
 
 returns : tie.Need-returns Inv-loop μ-loop
 returns c =
-    let l = c .before .before in
-    all-lines (l .loop .inv) (c .enum-told .given .1)
+    let at-loop = c .before .before in
+    all-lines (at-loop .loop .inv) (c .enum-told .given .1)
 
 same-length-2 : tie.Need-same-length-2 Inv-loop μ-loop
 same-length-2 c =
-    let w = put (c .before .before) in
-    same-back (head w .loop .inv) (turn w .next .given .1) (made w .next-line .ensures) (w .place .last .1 .0) (w .place .kept .1 .0)
+    let w = at-place (c .before .before) in
+    same-back (head w .loop .inv) (at-tally w .next .given .1) (at-line w .next-line .ensures) (w .place .last .1 .0) (w .place .kept .1 .0)
 
 returns-2 : tie.Need-returns-2 Inv-loop μ-loop
 returns-2 c =
-    let w = put (c .before .before) in
-    no-line (head w .loop .inv) (turn w .next .given .1) (made w .next-line .ensures) _
+    let w = at-place (c .before .before) in
+    no-line (head w .loop .inv) (at-tally w .next .given .1) (at-line w .next-line .ensures) _
     (sym (c .enum-told2 .given .1) ∙ w .place .ensures .0, w .place .ensures .1)
 
 loop-again : tie.Need-loop-again Inv-loop μ-loop
 loop-again c =
-    let m = c .before in
-    let w = put (m .before .before) in
-    one-line (head w .loop .inv) (turn w .next .given .1) (made w .next-line .ensures) _ _
-    (sym (m .more .given .1) ∙ w .place .ensures .0, w .place .ensures .1)
+    let has-room = c .before in
+    let w = at-place (has-room .before .before) in
+    one-line (head w .loop .inv) (at-tally w .next .given .1) (at-line w .next-line .ensures) _ _
+    (sym (has-room .more .given .1) ∙ w .place .ensures .0, w .place .ensures .1)
 
 add-count : tie.Need-add-count Inv-loop μ-loop
 add-count c = omega (arith, loop-again c .within)
 
 loop-less : tie.Need-loop-less Inv-loop μ-loop
 loop-less c =
-    let m = c .before in
-    let w = put (m .before .before) in
-    line-falls (head w .loop .inv) (turn w .next .given .1) (made w .next-line .ensures)
+    let has-room = c .before in
+    let w = at-place (has-room .before .before) in
+    line-falls (head w .loop .inv) (at-tally w .next .given .1) (at-line w .next-line .ensures)
 
 pub fill-spec : {M : Type 1} → statement M
 fill-spec =

@@ -1,4 +1,4 @@
--- Straight: each field is the definition's. Assumes nothing.
+-- Straight: each figure is read where the definition reads it. Assumes nothing.
 use Rattle.xdr_sheet.specs.Laws.Sheet.{reply-from}
 use borrow.Author.Needs.{needs}
 use Rattle.xdr_sheet.proofs.sheet.quote.Statement.{statement}
@@ -6,13 +6,14 @@ use Rattle.xdr_sheet.proofs.sheet.quote.Tie as tie
 
 returns : tie.Need-returns
 returns c =
-    let t = c .before in
-    let k = t .before in
-    let f = k .before in
-    let p = f .before in
-    let s = p .before in
-    reply-from (s .before .before .args .sheet .now) (s .before .before .args .at) _ _ _ _ _
-    (s .unsigned .ensures) (p .double .ensures) (f .double2 .ensures) (k .double3 .ensures) (t .double4 .ensures) (c .implied-black-volatility-input .ensures)
+    let time = c .before in
+    let strike = time .before in
+    let forward = strike .before in
+    let price = forward .before in
+    let side = price .before in
+    let start = side .before .before in
+    reply-from (start .args .sheet .now) (start .args .at) _ _ _ _ _ (side .unsigned .ensures) (price .double .ensures)
+    (forward .double2 .ensures) (strike .double3 .ensures) (time .double4 .ensures) (c .implied-black-volatility-input .ensures)
 
 pub quote-spec : {M : Type 1} → statement M
 quote-spec =

@@ -9,13 +9,21 @@ returns : tie.Need-returns
 returns c = size-short _ (c .if1 .taken)
 
 returns-2 : tie.Need-returns-2
-returns-2 c = size-many _ _ (c .before .unsigned .ensures) (c .before .before .if1 .left) (omega (arith, c .if2 .taken))
+returns-2 c =
+    let at-count = c .before in
+    size-many _ _ (at-count .unsigned .ensures) (at-count .before .if1 .left) (omega (arith, c .if2 .taken))
 
 returns-3 : tie.Need-returns-3
-returns-3 c = size-whole _ _ (c .before .before .unsigned .ensures) (c .before .before .before .if1 .left) (c .before .if2 .left) (c .if3 .taken)
+returns-3 c =
+    let few = c .before in
+    let at-count = few .before in
+    size-whole _ _ (at-count .unsigned .ensures) (at-count .before .if1 .left) (few .if2 .left) (c .if3 .taken)
 
 returns-4 : tie.Need-returns-4
-returns-4 c = size-other _ _ (c .before .before .unsigned .ensures) (c .before .before .before .if1 .left) (c .before .if2 .left) (c .if3 .left)
+returns-4 c =
+    let few = c .before in
+    let at-count = few .before in
+    size-other _ _ (at-count .unsigned .ensures) (at-count .before .if1 .left) (few .if2 .left) (c .if3 .left)
 
 pub quotes-in-spec : {M : Type 1} → statement M
 quotes-in-spec =

@@ -1,4 +1,4 @@
--- One piece after another. Assumes nothing.
+-- Straight: the tally's numbers between their letters and spaces. Assumes nothing.
 use Rattle.xdr_sheet.specs.Text.{closing}
 use Rattle.xdr_sheet.proofs.Lines.{_then_, from-empty}
 use borrow.Author.Needs.{needs}
@@ -8,12 +8,13 @@ use Rattle.xdr_sheet.proofs.text.closing_line.Tie as tie
 returns : tie.Need-returns
 unfolding closing
 returns c =
-    let d = c .before .before in
-    let b = d .before .before in
-    let e = b .before .before in
-    let f = e .before .before in
-    from-empty (f .before .before .empty .ensures .0)
-    (f .bytes .ensures then e .decimal .ensures .0 then b .bytes2 .ensures then d .decimal2 .ensures .0 then c .bytes3 .ensures)
+    let at-refusals = c .before .before in
+    let at-space = at-refusals .before .before in
+    let at-answers = at-space .before .before in
+    let at-letter = at-answers .before .before in
+    from-empty (at-letter .before .before .empty .ensures .0)
+    (at-letter .bytes .ensures then at-answers .decimal .ensures .0 then at-space .bytes2 .ensures then at-refusals .decimal2 .ensures .0
+    then c .bytes3 .ensures)
 
 pub closing-line-spec : {M : Type 1} → statement M
 closing-line-spec =

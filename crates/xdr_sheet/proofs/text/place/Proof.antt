@@ -8,16 +8,17 @@ use Rattle.xdr_sheet.proofs.text.place.Tie as tie
 
 returns : tie.Need-returns
 returns c =
-    let a = c .before .before .before .args in
+    let at-count = c .before in
+    let a = at-count .before .before .args in
     no-room (written (a .line)) (a .out .now) (omega arith)
 
 returns-2 : tie.Need-returns-2
 returns-2 c =
-    let d = c .before .before in
-    let b = d .before .before in
-    let n = b .before .before in
-    let a = n .before .before .args in
-    with-room (a .line) (n .count .result) (a .out .now) _ (n .count .ensures .0) (omega arith) (d .copy .ensures)
+    let at-copy = c .before .before in
+    let at-bytes = at-copy .before .before in
+    let at-count = at-bytes .before .before in
+    let a = at-count .before .before .args in
+    with-room (a .line) (at-count .count .result) (a .out .now) _ (at-count .count .ensures .0) (omega arith) (at-copy .copy .ensures)
 
 pub place-spec : {M : Type 1} → statement M
 place-spec = tie.close (tie.spec (λ c κs. search needs) returns (λ c κs. search needs) (λ c. search needs) returns-2)

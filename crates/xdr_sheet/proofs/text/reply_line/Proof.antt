@@ -1,4 +1,4 @@
--- One piece after another. Assumes nothing.
+-- The quote's number, then the fields of its answer or its refusal. Assumes nothing.
 use Rattle.xdr_sheet.proofs.Lines.{answer-line, refusal-line}
 use borrow.Author.Needs.{needs}
 use Rattle.xdr_sheet.proofs.text.reply_line.Statement.{statement}
@@ -6,17 +6,21 @@ use Rattle.xdr_sheet.proofs.text.reply_line.Tie as tie
 
 returns : tie.Need-returns
 returns c =
-    let m = c .before .before .before in
-    let d = m .before .before .before in
-    answer-line (d .before .before .args .number) _ _ _ (d .before .empty .ensures .0) (d .decimal .ensures .0) (c .answer .ensures)
-    (m .before .reply .given .1) (c .before .before .pattern .ensures) (c .before .pattern2 .ensures)
+    let at-volatility = c .before in
+    let at-total = at-volatility .before in
+    let is-answer = at-total .before .before in
+    let at-number = is-answer .before .before in
+    let at-empty = at-number .before in
+    answer-line (at-empty .before .args .number) _ _ _ (at-empty .empty .ensures .0) (at-number .decimal .ensures .0) (c .answer .ensures)
+    (is-answer .reply .given .1) (at-total .pattern .ensures) (at-volatility .pattern2 .ensures)
 
 returns-2 : tie.Need-returns-2
 returns-2 c =
-    let m = c .before in
-    let d = m .before .before .before in
-    refusal-line (d .before .before .args .number) _ _ (d .before .empty .ensures .0) (d .decimal .ensures .0) (c .refusal .ensures)
-    (m .before .reply2 .given .1)
+    let is-refusal = c .before .before in
+    let at-number = is-refusal .before .before in
+    let at-empty = at-number .before in
+    refusal-line (at-empty .before .args .number) _ _ (at-empty .empty .ensures .0) (at-number .decimal .ensures .0) (c .refusal .ensures)
+    (is-refusal .reply2 .given .1)
 
 pub reply-line-spec : {M : Type 1} → statement M
 reply-line-spec =

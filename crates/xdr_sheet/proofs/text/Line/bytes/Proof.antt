@@ -1,11 +1,11 @@
--- Invariant: the line has the bytes before i. Measure: how many are left. Assumes nothing.
+-- Invariant: the line has the first i bytes after its text. Measure: how many are left. Assumes nothing.
 use Prim.Native.Nat.{_≤_, _-_}
 use native.Mathlib.Omega.{arith}
 use borrow.Author.Needs.{needs}
 use lib.ListN.{length, take}
 use lib.Seq.{length-take-le}
 use Rattle.xdr_sheet.specs.Internal.Lines.{Extended}
-use Rattle.xdr_sheet.proofs.Lines.{same-line, turn, whole}
+use Rattle.xdr_sheet.proofs.Lines.{same-line, next-byte, whole}
 use Rattle.xdr_sheet.proofs.text.Line.bytes.Statement.{statement}
 use Rattle.xdr_sheet.proofs.text.Line.bytes.Tie as tie
 
@@ -20,16 +20,20 @@ loop-holds c = (search needs, same-line (c .before .args .self))
 
 byte-requires : tie.Need-byte-requires Inv-loop μ-loop
 byte-requires c κs =
-    let l = c .before .before in
-    omega (arith, length-take-le (l .loop .i) (l .before .before .args .s .now) (search needs))
+    let at-loop = c .before .before in
+    omega (arith, length-take-le (at-loop .loop .i) (at-loop .before .before .args .s .now) (search needs))
 
 loop-again : tie.Need-loop-again Inv-loop μ-loop
 loop-again c =
-    let l = c .before .before .before in
-    (omega arith, turn _ _ _ (l .before .before .args .s .now) (l .loop .i) (omega arith) (l .loop .inv .1) (c .byte .ensures))
+    let at-test = c .before .before in
+    let at-loop = at-test .before in
+    let s = at-loop .before .before .args .s .now in
+    (omega arith, next-byte _ _ _ s (at-loop .loop .i) (omega arith) (at-loop .loop .inv .1) (c .byte .ensures))
 
 returns : tie.Need-returns Inv-loop μ-loop
-returns c = whole _ _ (c .before .before .before .args .s .now) (c .before .loop .i) (omega arith) (c .before .loop .inv .1)
+returns c =
+    let at-loop = c .before in
+    whole _ _ (at-loop .before .before .args .s .now) (at-loop .loop .i) (omega arith) (at-loop .loop .inv .1)
 
 pub bytes-spec : {M : Type 1} → statement M
 bytes-spec =

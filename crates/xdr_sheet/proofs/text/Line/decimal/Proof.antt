@@ -1,10 +1,8 @@
 -- A u64 has 20 digits at most. Assumes nothing.
-use mathlib.Core.Path.{_∙_, subst}
-use mathlib.Core.List.{List}
-use Prim.Native.Nat.{ℕ, _≤_}
+use mathlib.Core.Path.{_∙_}
+use Prim.Native.Nat.{_≤_}
 use native.Mathlib.Omega.{arith}
-use Rattle.xdr_sheet.specs.Internal.Lines.{Extended}
-use Rattle.xdr_sheet.proofs.Lines.{decimal-is, places-le}
+use Rattle.xdr_sheet.proofs.Lines.{same-text, decimal-is, places-le}
 use borrow.Author.Needs.{needs}
 use Rattle.xdr_sheet.proofs.text.Line.decimal.Statement.{statement}
 use Rattle.xdr_sheet.proofs.text.Line.decimal.Tie as tie
@@ -17,12 +15,11 @@ bytes-requires c κs = omega (arith, few (c .before))
 
 returns : tie.Need-returns
 returns c =
-    let w = c .before .before in
-    let d = w .decimal in
-    let a = w .before .before .args in (
-      subst (λ (t : List ℕ). Extended (a .self) t (c .bytes .result))
-          (d .ensures .1 .1 ∙ decimal-is (a .n) (d .result) (search needs) (d .ensures .1 .0)) (c .bytes .ensures),
-      omega (arith, few (c .before .before), c .bytes .ensures .count),
+    let at-digits = c .before .before in
+    let n = at-digits .before .before .args .n in
+    let d = at-digits .decimal in (
+      same-text (c .bytes .ensures) (d .ensures .1 .1 ∙ decimal-is n (d .result) (search needs) (d .ensures .1 .0)),
+      omega (arith, few at-digits, c .bytes .ensures .count),
     )
 
 pub decimal-spec : {M : Type 1} → statement M

@@ -1,10 +1,7 @@
--- A u64 has 16 digits, zeros in front. Assumes nothing.
-use mathlib.Core.Path.{_≡_, _∙_, subst}
-use mathlib.Core.List.{List}
-use Prim.Native.Nat.{ℕ}
+-- A u64 has 16 hexadecimal digits, zeros in front. Assumes nothing.
+use mathlib.Core.Path.{_≡_, _∙_}
 use native.Mathlib.Omega.{arith}
-use Rattle.xdr_sheet.specs.Internal.Lines.{Extended}
-use Rattle.xdr_sheet.proofs.Lines.{hexadecimal-is, sixteen}
+use Rattle.xdr_sheet.proofs.Lines.{same-text, hexadecimal-is, sixteen}
 use borrow.Author.Needs.{needs}
 use Rattle.xdr_sheet.proofs.text.Line.hexadecimal.Statement.{statement}
 use Rattle.xdr_sheet.proofs.text.Line.hexadecimal.Tie as tie
@@ -17,12 +14,11 @@ bytes-requires c κs = omega (arith, all (c .before))
 
 returns : tie.Need-returns
 returns c =
-    let w = c .before .before in
-    let d = w .hex in
-    let a = w .before .before .args in (
-      subst (λ (t : List ℕ). Extended (a .self) t (c .bytes .result))
-          (d .ensures .1 .1 ∙ hexadecimal-is (a .bits) (d .result) (search needs) (d .ensures .1 .0)) (c .bytes .ensures),
-      omega (arith, all (c .before .before), c .bytes .ensures .count),
+    let at-digits = c .before .before in
+    let bits = at-digits .before .before .args .bits in
+    let d = at-digits .hex in (
+      same-text (c .bytes .ensures) (d .ensures .1 .1 ∙ hexadecimal-is bits (d .result) (search needs) (d .ensures .1 .0)),
+      omega (arith, all at-digits, c .bytes .ensures .count),
     )
 
 pub hexadecimal-spec : {M : Type 1} → statement M

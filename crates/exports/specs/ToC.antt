@@ -1,0 +1,47 @@
+-- What C is handed by a call: the number that is returned, and what then stands at the places that the caller gave. Definitions only.
+use Prim.Native.Nat.{ℕ}
+use mathlib.Core.Bool.{cond}
+use mathlib.Core.List.{List}
+use lib.Ieee.{Float}
+use lib.ListN.{length}
+use Rattle.explicit_black.specs.Quote.{Reply, answer, refusal}
+use Rattle.xdr_sheet.specs.Sheet.{Size, quotes, refused, SheetReply, replied, noQuote}
+use Rattle.xdr_sheet.specs.Text.{fitsInto, overlaid}
+use Rattle.xdr_sheet.specs.Printing.{Step}
+
+-- ---- a reply: the number, and total volatility, volatility and count at their places
+pub data ReplyToC : Type 0 where
+  handedReply : ℕ → Float → Float → ℕ → ReplyToC
+
+-- 0 with the figures of an answer; or a refusal's number, and the figures that stood there before
+abbrev pub replyToC : Float → Float → Reply → ReplyToC
+replyToC oldTotal oldVolatility (answer total volatility count) = handedReply 0 total volatility count
+replyToC oldTotal oldVolatility (refusal number count) = handedReply number oldTotal oldVolatility count
+
+-- the number, which no refusal has, where an accepted sheet has no such quote: QUOTER_NO_QUOTE of include/quoter.h
+abbrev pub noQuoteNumber : ℕ
+noQuoteNumber = 0xFFFF_FFFF
+
+-- the reply of a quote in a sheet; where there is none, that number, and what stood there before
+abbrev pub sheetReplyToC : Float → Float → ℕ → SheetReply → ReplyToC
+sheetReplyToC oldTotal oldVolatility oldCount (replied r) = replyToC oldTotal oldVolatility r
+sheetReplyToC oldTotal oldVolatility oldCount noQuote = handedReply noQuoteNumber oldTotal oldVolatility oldCount
+
+-- ---- a sheet's size: the number, and how many quotes it has at their place
+pub data SizeToC : Type 0 where
+  handedSize : ℕ → ℕ → SizeToC
+
+-- 0 with how many; or the refusal's number, and what stood there before
+abbrev pub sizeToC : ℕ → Size → SizeToC
+sizeToC old (quotes n) = handedSize 0 n
+sizeToC old (refused number count) = handedSize number old
+
+-- ---- a line: its letter, and how many bytes it has and the buffer at their places
+pub data LineToC : Type 0 where
+  handedLine : ℕ → ℕ → List ℕ → LineToC
+
+-- the letter, the bytes counted and the line at the buffer's start; or 0, and what stood there before, where it has no room
+abbrev pub lineToC : ℕ → List ℕ → Step → LineToC
+lineToC oldCount buffer l =
+    cond (fitsInto (l .text) (length buffer)) (handedLine (l .letter) (length (l .text)) (overlaid (l .text) buffer))
+    (handedLine 0 oldCount buffer)

@@ -11,7 +11,7 @@ use Rattle.special_function.specs.ErrorFunction.{erfcxCody}
 use Rattle.special_function.specs.NormalDistribution.{normPdf, normCdf, inverseNormCdf}
 use Rattle.bs_option_price.specs.BsOptionPrice.{normalisedBlack}
 
--- finite and above 0, which REQUIREMENTS 1.3 calls proper; the source writes the two tests in either order, and also denied
+-- finite and above 0: the source writes the two tests in either order, and also denied
 abbrev pub finitePositive : Float → Bool
 finitePositive x = isFinite x && lt plusZero x
 
@@ -32,7 +32,7 @@ inverseGaussianQuantileInitialGuessFromZ z mu =
 unfoldable pub inverseGaussianQuantileInitialGuess : Float → Float → Float
 inverseGaussianQuantileInitialGuess probability mu = inverseGaussianQuantileInitialGuessFromZ (inverseNormCdf probability) mu
 
--- where a search starts: the guess, or mu where the guess is not proper
+-- where a search starts: the guess, or mu where the guess is not finite and positive
 unfoldable pub startingPoint : Float → Float → Float
 startingPoint guess mu = cond (finitePositive guess) guess mu
 

@@ -36,7 +36,7 @@ numerator cdf probability logProbability =
     (cond (lt (abs delta) (bits 0x3EE4_F8B5_88E3_68F1)) (delta ⊗ exp (logProbability ⊕ ln1p (neg half ⊗ delta))) (probability ⊖ cdf))  -- 1.0e-5
     probability
 
--- a Newton step: the move error / pdf, or none where the density pdf is not proper
+-- a Newton step: the move error / pdf, or none where the density pdf is not finite and positive
 unfoldable pub nrstep : Float → Float → Option Float
 nrstep pdf error = cond (finitePositive pdf) (some (error ⊘ pdf)) none
 
@@ -54,7 +54,7 @@ seed probability logProbability mu =
     (cond (lt (bits 0xBEE4_F8B5_88E3_68F1) logProbability) (max (inverseGaussianQuantileInitialGuess probability mu ⊘ mu) mode)  -- -1.0e-5
     mode)
 
--- the seed; where that is not proper, the larger of the mode and the smallest normal value
+-- the seed; where that is not finite and positive, the larger of the mode and the smallest normal value
 unfoldable pub initialX : Float → Float → Float → Float
 initialX probability logProbability mu =
     let x = seed probability logProbability mu in
@@ -64,7 +64,7 @@ initialX probability logProbability mu =
 unfoldable pub converged : Float → Float → Bool
 converged dx x = le (abs dx ⊘ x) (bits 0x3D06_849B_86A1_2B9B)
 
--- A state of the steps is x and the direction of the first move. After a move dx to x there is no root where x is not proper; where the move was
+-- A state of the steps is x and the direction of the first move. After a move dx to x there is no root where x is not finite and positive; where the move was
 -- small, x * mu is the root.
 unfoldable pub afterMove : Float → Float → Float → Float → Next (Float × Float) (Option Float)
 afterMove mu x dx direction =

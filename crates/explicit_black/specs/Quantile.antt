@@ -73,7 +73,7 @@ inverseGaussianQuantileBracketed probability mu =
 abbrev pub solvable : Float → Float → Bool
 solvable probability mu = lt plusZero probability && (lt probability one && finitePositive mu)
 
--- the root of the Newton steps if it is proper
+-- the root of the Newton steps if it is finite and positive
 unfoldable pub filtered : Option Float → Option Float
 filtered (some x) = cond (finitePositive x) (some x) none
 filtered none = none

@@ -48,7 +48,7 @@ impliedNormalisedVolatilityAtm beta = two ⊗ sqrt2 ⊗ erfinv beta
 unfoldable pub atTheMoney : Float → Outcome
 atTheMoney price = let v = impliedNormalisedVolatilityAtm price in cond (le plusZero v) (total v) (refused 9)
 
--- the total volatility at the root of a search; no root, and one that is not proper, are refused
+-- the total volatility at the root of a search; no root, and one that is not finite and positive, are refused
 unfoldable pub totalAt : Option Float → Outcome
 totalAt (some x) = cond (finitePositive x) (total (two ⊘ sqrt x)) (refused 9)
 totalAt none = refused 9

@@ -72,7 +72,7 @@ far v p = lt plusZero v && lt half (abs (v ⊘ p ⊖ one))
 unfoldable pub survivalStep : Float → Float → Float → Float
 survivalStep v p pdf = cond (far v p) ((ln v ⊖ ln p) ⊗ (v ⊘ pdf)) ((v ⊖ p) ⊘ pdf)
 
--- the step, or none where the density is not proper
+-- the step, or none where the density is not finite and positive
 unfoldable pub survivalNewton : Float → Float → Float → Option Float
 survivalNewton v p pdf = cond (finitePositive pdf) (some (survivalStep v p pdf)) none
 

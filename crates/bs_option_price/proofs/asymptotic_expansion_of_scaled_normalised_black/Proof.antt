@@ -1,4 +1,4 @@
--- Straight: what each call ensures is the definition's. Assumes nothing.
+-- `asymptotic_expansion_of_scaled_normalised_black` meets its contract: what each call ensures is the definition's. Assumes nothing.
 use Rattle.bs_option_price.specs.BsOptionPrice.{asymptoticExpansionOfScaledNormalisedBlack}
 use Rattle.bs_option_price.proofs.asymptotic_expansion_of_scaled_normalised_black.Tie as tie
 use Rattle.bs_option_price.proofs.asymptotic_expansion_of_scaled_normalised_black.Statement.{

@@ -1,4 +1,4 @@
--- Straight: what each call ensures is the definition's. Assumes nothing.
+-- `b` meets its contract: what each call ensures is the definition's. Assumes nothing.
 use Rattle.bs_option_price.specs.BsOptionPrice.{b}
 use Rattle.bs_option_price.proofs.b.Statement.{statement}
 use Rattle.bs_option_price.proofs.b.Tie as tie

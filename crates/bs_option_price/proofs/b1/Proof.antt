@@ -1,4 +1,4 @@
--- Straight: what each call ensures is the definition's. Assumes nothing.
+-- `b1` meets its contract: what each call ensures is the definition's. Assumes nothing.
 use Rattle.bs_option_price.specs.BsOptionPrice.{b1}
 use Rattle.bs_option_price.proofs.b1.Tie as tie
 use Rattle.bs_option_price.proofs.b1.Statement.{statement}

@@ -1,4 +1,4 @@
--- Straight: what each call ensures is the definition's. Assumes nothing.
+-- `b2` meets its contract: what each call ensures is the definition's. Assumes nothing.
 use borrow.Author.Needs.{needs}
 use Rattle.bs_option_price.specs.BsOptionPrice.{b2}
 use Rattle.bs_option_price.proofs.b2.Tie as tie

@@ -1,4 +1,4 @@
--- The first test decides, or the second does. Assumes nothing.
+-- `is_region1` meets its contract: the first test decides, or the second does. Assumes nothing.
 use Rattle.bs_option_price.specs.BsOptionPrice.{isRegion1}
 use Rattle.bs_option_price.proofs.is_region1.Tie as tie
 use Rattle.bs_option_price.proofs.is_region1.Statement.{statement}

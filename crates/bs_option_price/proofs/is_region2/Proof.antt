@@ -1,4 +1,4 @@
--- Straight: what each call ensures is the definition's. Assumes nothing.
+-- `is_region2` meets its contract: what each call ensures is the definition's. Assumes nothing.
 use Rattle.bs_option_price.specs.BsOptionPrice.{isRegion2}
 use Rattle.bs_option_price.proofs.is_region2.Tie as tie
 use Rattle.bs_option_price.proofs.is_region2.Statement.{statement}

@@ -1,4 +1,5 @@
--- The tests that led to each return pick the definition's case: they are on what `min` and `max` gave. Assumes nothing.
+-- `negative_abs_log_moneyness` meets its contract: the tests that led to each return pick the definition's case: they are on what `min` and `max` gave.
+-- Assumes nothing.
 use Rattle.bs_option_price.specs.BsOptionPrice.{negativeAbsLogMoneyness}
 use Rattle.bs_option_price.proofs.negative_abs_log_moneyness.Tie as tie
 use Rattle.bs_option_price.proofs.negative_abs_log_moneyness.Statement.{

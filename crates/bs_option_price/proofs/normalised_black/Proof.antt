@@ -1,4 +1,4 @@
--- The tests that led to each return pick the definition's case; two of them lead to the first. Assumes nothing.
+-- `normalised_black` meets its contract: the tests that led to each return pick the definition's case; two of them lead to the first. Assumes nothing.
 use mathlib.Core.Path.{_≡_, sym, _∙_}
 use mathlib.Core.Bool.{false, _||_}
 use mathlib.Core.Logic.{⊎-elim}

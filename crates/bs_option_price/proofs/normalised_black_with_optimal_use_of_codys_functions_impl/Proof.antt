@@ -1,4 +1,4 @@
--- Straight: what each call ensures is the definition's. Assumes nothing.
+-- `normalised_black_with_optimal_use_of_codys_functions_impl` meets its contract: what each call ensures is the definition's. Assumes nothing.
 use Rattle.bs_option_price.specs.BsOptionPrice.{normalisedBlackWithOptimalUseOfCodysFunctionsImpl}
 use Rattle.bs_option_price.proofs.normalised_black_with_optimal_use_of_codys_functions_impl.Tie as tie
 use Rattle.bs_option_price.proofs.normalised_black_with_optimal_use_of_codys_functions_impl.Statement.{

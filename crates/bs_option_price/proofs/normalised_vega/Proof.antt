@@ -1,4 +1,4 @@
--- Straight: what each call ensures is the definition's. Assumes nothing.
+-- `normalised_vega` meets its contract: what each call ensures is the definition's. Assumes nothing.
 use Rattle.bs_option_price.specs.BsOptionPrice.{normalisedVega}
 use Rattle.bs_option_price.proofs.normalised_vega.Tie as tie
 use Rattle.bs_option_price.proofs.normalised_vega.Statement.{statement}

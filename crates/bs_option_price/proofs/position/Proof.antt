@@ -1,4 +1,4 @@
--- Invariant: the first threshold above the value is not among the i passed. Measure: how many are left. Assumes nothing.
+-- `position` meets its contract. Invariant: the first threshold above the value is not among the i passed. Measure: how many are left. Assumes nothing.
 use mathlib.Core.Path.{_≡_}
 use Prim.Native.Nat.{_+_, _-_, _≤_}
 use native.Mathlib.Omega.{arith}

@@ -1,4 +1,4 @@
--- Straight: what each call ensures is the definition's. Assumes nothing.
+-- `small_t_expansion_of_scaled_normalised_black` meets its contract: what each call ensures is the definition's. Assumes nothing.
 use borrow.Author.Needs.{needs}
 use Rattle.bs_option_price.specs.BsOptionPrice.{smallTExpansionOfScaledNormalisedBlack}
 use Rattle.bs_option_price.proofs.small_t_expansion_of_scaled_normalised_black.Tie as tie

@@ -1,4 +1,5 @@
--- Below the last threshold the twelve calls of `term` are the definition's twelve steps; from there on the tail is 0. Assumes nothing.
+-- `tail` meets its contract: below the last threshold the twelve calls of `term` are the definition's twelve steps; from there on the tail is 0. Assumes
+-- nothing.
 use borrow.Author.Needs.{needs}
 use borrow.Author.Tests.{le-ltb}
 use Rattle.bs_option_price.specs.BsOptionPrice.{tail}

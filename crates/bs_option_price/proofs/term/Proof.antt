@@ -1,4 +1,4 @@
--- The test picks the definition's case. Assumes nothing.
+-- `term` meets its contract: the test picks the definition's case. Assumes nothing.
 use mathlib.Core.Path.{ap, _∙_}
 use borrow.Author.Needs.{needs}
 use borrow.Author.Tests.{le-leb, lt-leb}

@@ -1,4 +1,4 @@
--- The tests that led to each return pick the definition's case. Assumes nothing.
+-- `two_b` meets its contract: the tests that led to each return pick the definition's case. Assumes nothing.
 use Rattle.bs_option_price.specs.BsOptionPrice.{twoB}
 use Rattle.bs_option_price.proofs.two_b.Tie as tie
 use Rattle.bs_option_price.proofs.two_b.Statement.{statement}

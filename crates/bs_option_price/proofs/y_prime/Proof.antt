@@ -1,4 +1,4 @@
--- The tests that led to each return pick the definition's case. Assumes nothing.
+-- `y_prime` meets its contract: the tests that led to each return pick the definition's case. Assumes nothing.
 use Rattle.bs_option_price.specs.BsOptionPrice.{yPrime}
 use Rattle.bs_option_price.proofs.y_prime.Tie as tie
 use Rattle.bs_option_price.proofs.y_prime.Statement.{statement}

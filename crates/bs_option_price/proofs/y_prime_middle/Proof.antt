@@ -1,4 +1,4 @@
--- Straight: what each call ensures is the definition's. Assumes nothing.
+-- `y_prime_middle` meets its contract: what each call ensures is the definition's. Assumes nothing.
 use borrow.Author.Needs.{needs}
 use Rattle.bs_option_price.specs.BsOptionPrice.{yPrimeMiddle}
 use Rattle.bs_option_price.proofs.y_prime_middle.Tie as tie

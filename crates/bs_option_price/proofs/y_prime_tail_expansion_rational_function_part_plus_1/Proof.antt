@@ -1,4 +1,4 @@
--- Straight: what each call ensures is the definition's. Assumes nothing.
+-- `y_prime_tail_expansion_rational_function_part_plus_1` meets its contract: what each call ensures is the definition's. Assumes nothing.
 use borrow.Author.Needs.{needs}
 use Rattle.bs_option_price.specs.BsOptionPrice.{yPrimeTailExpansionRationalFunctionPartPlus1}
 use Rattle.bs_option_price.proofs.y_prime_tail_expansion_rational_function_part_plus_1.Tie as tie

@@ -1,4 +1,4 @@
--- By the case of the reply. Assumes nothing.
+-- `hand` meets its contract: by the case of the reply. Assumes nothing.
 use mathlib.Core.Path.{sym, ap}
 use Rattle.explicit_black.specs.Replies.{viewReply}
 use Rattle.exports.specs.ToC.{replyToC}

@@ -1,4 +1,4 @@
--- One evaluation is allowed, so its value is there. Assumes nothing.
+-- `quoter_inverse_gaussian_survival` meets its contract: one evaluation is allowed, so its value is there. Assumes nothing.
 use borrow.Author.Needs.{needs}
 use mathlib.Core.Path.{sym, ap, _∙_}
 use Rattle.explicit_black.specs.Internal.Searches.{viewSurvivalEvaluation}

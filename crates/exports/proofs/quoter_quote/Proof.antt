@@ -1,4 +1,4 @@
--- Straight: the entry's reply is handed on. Assumes nothing.
+-- `quoter_quote` meets its contract: the entry's reply is handed on. Assumes nothing.
 use mathlib.Core.Path.{ap, _∙_}
 use Rattle.exports.specs.ToC.{replyToC}
 use Rattle.exports.proofs.quoter_quote.Statement.{statement}

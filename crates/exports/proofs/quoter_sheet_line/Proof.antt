@@ -1,4 +1,4 @@
--- By whether the line had room. Assumes nothing.
+-- `quoter_sheet_line` meets its contract: by whether the line had room. Assumes nothing.
 use mathlib.Core.Path.{sym, _∙_}
 use Rattle.exports.proofs.SheetLine.{line-put, line-not-put}
 use borrow.Author.Needs.{needs}

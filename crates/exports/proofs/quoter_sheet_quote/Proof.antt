@@ -1,4 +1,4 @@
--- By whether the sheet has the quote. Assumes nothing.
+-- `quoter_sheet_quote` meets its contract: by whether the sheet has the quote. Assumes nothing.
 use mathlib.Core.Path.{sym, ap, _∙_}
 use Rattle.xdr_sheet.specs.Replies.{viewSheetReply}
 use Rattle.exports.specs.ToC.{sheetReplyToC}

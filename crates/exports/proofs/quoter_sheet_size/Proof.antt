@@ -1,4 +1,4 @@
--- The sheet's size picks the case. Assumes nothing.
+-- `quoter_sheet_size` meets its contract: the sheet's size picks the case. Assumes nothing.
 use mathlib.Core.Path.{sym, ap, _∙_}
 use Rattle.xdr_sheet.specs.Replies.{viewSize}
 use Rattle.exports.specs.ToC.{sizeToC}

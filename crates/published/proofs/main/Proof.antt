@@ -1,4 +1,4 @@
--- The lines that may still be read are counted down. Assumes nothing.
+-- `main` meets its contract: the lines that may still be read are counted down. Assumes nothing.
 use borrow.Author.Needs.{needs}
 use Rattle.published.proofs.main.Statement.{statement}
 use Rattle.published.proofs.main.Tie as tie

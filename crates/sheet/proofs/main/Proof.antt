@@ -1,4 +1,4 @@
--- Straight: what was read is within the buffer. Assumes nothing.
+-- `main` meets its contract: what was read is within the buffer. Assumes nothing.
 use mathlib.Core.Path.{sym}
 use lib.Seq.{length-take-le}
 use borrow.Author.Needs.{needs}

@@ -1,4 +1,4 @@
--- Invariant: the buffer keeps its length. Measure: the lines still to come. Assumes nothing.
+-- `print` meets its contract. Invariant: the buffer keeps its length. Measure: the lines still to come. Assumes nothing.
 use mathlib.Core.Path.{_≡_, sym}
 use Prim.Native.Nat.{_≤_}
 use native.Mathlib.Omega.{arith}

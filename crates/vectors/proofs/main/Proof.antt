@@ -1,4 +1,4 @@
--- The program ends: records are counted down. Assumes nothing.
+-- `main` meets its contract: the program ends: records are counted down. Assumes nothing.
 use borrow.Author.Needs.{needs}
 use Rattle.vectors.proofs.main.Statement.{statement}
 use Rattle.vectors.proofs.main.Tie as tie

@@ -1,4 +1,4 @@
--- `arithmetic::basic::abs` meets its contract: the pattern without its sign is that of the magnitude, by `abs-bits`. Assumes nothing.
+-- `basic::abs` meets its contract: the pattern without its sign is that of the magnitude, by `abs-bits`. Assumes nothing.
 use lib.Dec.{T}
 use denote.Floats.{passes}
 use lib.Ieee.{binary64, fits, div}

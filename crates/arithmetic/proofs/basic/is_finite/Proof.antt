@@ -1,4 +1,4 @@
--- `arithmetic::basic::is_finite` meets its contract, by `finite-test`. Assumes nothing.
+-- `basic::is_finite` meets its contract, by `finite-test`. Assumes nothing.
 use native.Mathlib.Omega.{arith}
 use Rattle.arithmetic.specs.Laws.Patterns.{bits-no-nan}
 use Rattle.arithmetic.specs.Laws.Signs.{finite-test}

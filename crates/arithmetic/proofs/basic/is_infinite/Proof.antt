@@ -1,4 +1,4 @@
--- `arithmetic::basic::is_infinite` meets its contract, by `infinite-test`. Assumes nothing.
+-- `basic::is_infinite` meets its contract, by `infinite-test`. Assumes nothing.
 use native.Mathlib.Omega.{arith}
 use Rattle.arithmetic.specs.Laws.Patterns.{bits-no-nan}
 use Rattle.arithmetic.specs.Laws.Signs.{infinite-test}

@@ -1,4 +1,4 @@
--- `arithmetic::basic::max` meets its contract: a law of `MaxMin` for each path. Assumes nothing.
+-- `basic::max` meets its contract: a law of `MaxMin` for each path. Assumes nothing.
 use mathlib.Core.Path.{_≡_}
 use mathlib.Core.Bool.{cond}
 use Rattle.arithmetic.specs.Basic.{max}

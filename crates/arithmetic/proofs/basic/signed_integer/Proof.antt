@@ -1,4 +1,4 @@
--- `arithmetic::basic::signed_integer` meets its contract: the cast is `round` without a sign, and a sign goes through `round`. Assumes nothing.
+-- `basic::signed_integer` meets its contract: the cast is `round` without a sign, and a sign goes through `round`. Assumes nothing.
 use mathlib.Core.Path.{sym, ap, _∙_}
 use mathlib.Core.Bool.{Bool, false}
 use lib.Ieee.{binary64, round, neg}

@@ -1,4 +1,4 @@
--- `arithmetic::basic::signum` meets its contract: the pattern's highest bit is the sign. Assumes nothing.
+-- `basic::signum` meets its contract: the pattern's highest bit is the sign. Assumes nothing.
 use mathlib.Core.Path.{_≡_, sym, ap, _∙_}
 use mathlib.Core.Bool.{Bool, false, cond}
 use lib.Dec.{T}

@@ -1,4 +1,4 @@
--- `arithmetic::basic::takes_first` meets its contract: the two comparisons, and the pattern's highest bit for equal operands. Assumes nothing.
+-- `basic::takes_first` meets its contract: the two comparisons, and the pattern's highest bit for equal operands. Assumes nothing.
 use mathlib.Core.Path.{_∙_}
 use denote.Floats.{passes}
 use lib.Ieee.{isNan}

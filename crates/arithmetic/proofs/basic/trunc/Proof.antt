@@ -1,4 +1,4 @@
--- `arithmetic::basic::trunc` meets its contract: a law of `Trunc` for each path. Assumes nothing.
+-- `basic::trunc` meets its contract: a law of `Trunc` for each path. Assumes nothing.
 use mathlib.Core.Bool.{not}
 use lib.Dec.{T}
 use denote.Floats.{passes}

@@ -1,4 +1,4 @@
--- `arithmetic::basic::whole_part` meets its contract: a law of `Trunc` for each path. Assumes nothing.
+-- `basic::whole_part` meets its contract: a law of `Trunc` for each path. Assumes nothing.
 use lib.Bits.{mask-lt}
 use native.Mathlib.Nat.{lt-of-lt-of-le}
 use lib.Dec.{T, lit≤}

@@ -1,4 +1,4 @@
--- `arithmetic::exp::biased_exponent` meets its contract: it is the choice by the sign. Assumes nothing.
+-- `exp::biased_exponent` meets its contract: it is the choice by the sign. Assumes nothing.
 use mathlib.Core.Path.{refl}
 use borrow.Author.Needs.{needs}
 use Rattle.arithmetic.proofs.exp.biased_exponent.Statement.{statement}

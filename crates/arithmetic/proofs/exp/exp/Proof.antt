@@ -1,4 +1,4 @@
--- `arithmetic::exp::exp` meets its contract: `fast` is called where both its tests hold. Assumes nothing.
+-- `exp::exp` meets its contract: `fast` is called where both its tests hold. Assumes nothing.
 use Rattle.arithmetic.proofs.ExpFast.{passed}
 use borrow.Author.Needs.{needs}
 use Rattle.arithmetic.proofs.exp.exp.Statement.{statement}

@@ -1,4 +1,4 @@
--- `arithmetic::exp::exp_product` meets its contract: `fast` is called where both its tests hold of both arguments. Assumes nothing.
+-- `exp::exp_product` meets its contract: `fast` is called where both its tests hold of both arguments. Assumes nothing.
 use lib.Dec.{T}
 use Rattle.arithmetic.specs.Internal.Exp.{inFastRange, clearOfTie}
 use Rattle.arithmetic.proofs.ExpFast.{passed, both-true}

@@ -1,4 +1,4 @@
--- `arithmetic::exp::fast` meets its contract, by the laws of `ExpFast`. Assumes nothing.
+-- `exp::fast` meets its contract, by the laws of `ExpFast`. Assumes nothing.
 use native.Mathlib.Omega.{arith}
 use lib.Dec.{T}
 use denote.Floats.{passes}

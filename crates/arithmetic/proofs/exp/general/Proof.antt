@@ -1,4 +1,4 @@
--- `arithmetic::exp::general` meets its contract: a law of `ExpGeneral` for each path. Assumes nothing.
+-- `exp::general` meets its contract: a law of `ExpGeneral` for each path. Assumes nothing.
 use mathlib.Core.Path.{_≡_, sym, ap, _∙_, subst}
 use mathlib.Core.Bool.{Bool, false}
 use Prim.Native.Nat.{ℕ, _^_, _≤_, _<_}

@@ -1,4 +1,4 @@
--- `arithmetic::exp::half_away` meets its contract: it is the definition, sign by sign. Assumes nothing.
+-- `exp::half_away` meets its contract: it is the definition, sign by sign. Assumes nothing.
 use mathlib.Core.Path.{refl}
 use Rattle.arithmetic.specs.Exp.{halfAway}
 use Rattle.arithmetic.proofs.exp.half_away.Statement.{statement}

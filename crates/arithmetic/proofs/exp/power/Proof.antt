@@ -1,4 +1,4 @@
--- `arithmetic::exp::power` meets its contract: a law of `ExpPower` for a subnormal power, and one for any other. Assumes nothing.
+-- `exp::power` meets its contract: a law of `ExpPower` for a subnormal power, and one for any other. Assumes nothing.
 use Prim.Native.Nat.{_-_, _*_, _%_, _^_}
 use native.Mathlib.Omega.{arith}
 use Rattle.arithmetic.proofs.ExpPower.{IsPower, pattern-no-nan, subnormal-power, normal-power}

@@ -1,4 +1,4 @@
--- `arithmetic::exp::reduced` meets its contract: it is the definition, operation by operation. Assumes nothing.
+-- `exp::reduced` meets its contract: it is the definition, operation by operation. Assumes nothing.
 use mathlib.Core.Path.{refl}
 use lib.Ieee.{neg, ofBits}
 use Rattle.arithmetic.specs.Exp.{reduced}

@@ -1,4 +1,4 @@
--- `arithmetic::exp::scale_b` meets its contract: a law of `PowersOfTwo` for each path. Assumes nothing.
+-- `exp::scale_b` meets its contract: a law of `PowersOfTwo` for each path. Assumes nothing.
 use mathlib.Core.Path.{sym, ap, _∙_}
 use Prim.Native.Nat.{ℕ}
 use lib.Dec.{T, lit≤}

@@ -1,4 +1,4 @@
--- `arithmetic::ln::decompose` meets its contract: a law of `Logarithm` for a subnormal number, and one for any other. Assumes nothing.
+-- `ln::decompose` meets its contract: a law of `Logarithm` for a subnormal number, and one for any other. Assumes nothing.
 use mathlib.Core.Path.{_∙_}
 use mathlib.Core.Bool.{not}
 use lib.Dec.{T}

@@ -1,4 +1,4 @@
--- `arithmetic::ln::decompose_bits` meets its contract: k is the difference of two whole numbers, by `sub-whole`. Assumes nothing.
+-- `ln::decompose_bits` meets its contract: k is the difference of two whole numbers, by `sub-whole`. Assumes nothing.
 use mathlib.Core.Path.{_≡_, refl, ap, _∙_}
 use Prim.Native.Nat.{_-_, _/_}
 use lib.Dec.{lit≤}

@@ -1,4 +1,4 @@
--- `arithmetic::ln::ln` meets its contract: a law of `LnPaths` for each path. Assumes nothing.
+-- `ln::ln` meets its contract: a law of `LnPaths` for each path. Assumes nothing.
 use native.Mathlib.Omega.{arith}
 use Rattle.arithmetic.specs.Laws.Patterns.{bits-no-nan}
 use Rattle.arithmetic.proofs.LnPaths.{ln-zero, ln-below, is-positive, ln-parts, ln-itself}

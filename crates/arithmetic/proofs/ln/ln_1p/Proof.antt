@@ -1,4 +1,4 @@
--- `arithmetic::ln::ln_1p` meets its contract: a law of `LnPaths` for each path. Assumes nothing.
+-- `ln::ln_1p` meets its contract: a law of `LnPaths` for each path. Assumes nothing.
 use mathlib.Core.Path.{_∙_}
 use lib.Ieee.{ofBits, neg}
 use Rattle.arithmetic.proofs.LnPaths.{ln1p-low, ln1p-high, ln1p-over, ln1p-under, sum-positive}

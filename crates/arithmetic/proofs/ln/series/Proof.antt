@@ -1,4 +1,4 @@
--- `arithmetic::ln::series` meets its contract: it is its definition. Assumes nothing.
+-- `ln::series` meets its contract: it is its definition. Assumes nothing.
 use mathlib.Core.Path.{refl}
 use Rattle.arithmetic.specs.Ln.{series}
 use Rattle.arithmetic.proofs.ln.series.Statement.{statement}

@@ -1,4 +1,4 @@
--- `arithmetic::mul_add::align` meets its contract: a law of `MulAddAlign` for each of the four ways to one scale. Assumes nothing.
+-- `mul_add::align` meets its contract: a law of `MulAddAlign` for each of the four ways to one scale. Assumes nothing.
 use native.Mathlib.Nat.{le-refl}
 use Rattle.arithmetic.proofs.MulAddAlign.{product-fits, addend-fits, near-above, far-above, near-below, far-below}
 use borrow.Author.Needs.{needs}

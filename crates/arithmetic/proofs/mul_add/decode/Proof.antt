@@ -1,4 +1,4 @@
--- `arithmetic::mul_add::decode` meets its contract: a law of `MulAddDecode` for a subnormal value, and one for any other. Assumes nothing.
+-- `mul_add::decode` meets its contract: a law of `MulAddDecode` for a subnormal value, and one for any other. Assumes nothing.
 use native.Mathlib.Omega.{arith}
 use lib.Dec.{T}
 use denote.Floats.{passes}

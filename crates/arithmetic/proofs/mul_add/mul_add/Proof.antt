@@ -1,4 +1,4 @@
--- `arithmetic::mul_add::mul_add` meets its contract: a law of `MulAddOperands` where an operand is a NaN or an infinity, and where all are finite what the
+-- `mul_add::mul_add` meets its contract: a law of `MulAddOperands` where an operand is a NaN or an infinity, and where all are finite what the
 -- steps ensure. Assumes nothing.
 use mathlib.Core.Path.{_≡_, sym, _∙_}
 use mathlib.Core.Bool.{true}

@@ -1,4 +1,4 @@
--- `arithmetic::mul_add::pack` meets its contract, by `packed`. Assumes nothing.
+-- `mul_add::pack` meets its contract, by `packed`. Assumes nothing.
 use mathlib.Core.Path.{_∙_}
 use Rattle.arithmetic.proofs.MulAddPack.{Packed, packed}
 use borrow.Author.Needs.{needs}

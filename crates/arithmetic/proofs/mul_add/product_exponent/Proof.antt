@@ -1,4 +1,4 @@
--- `arithmetic::mul_add::product_exponent` meets its contract, by the laws of `MulAddAlign`. Assumes nothing.
+-- `mul_add::product_exponent` meets its contract, by the laws of `MulAddAlign`. Assumes nothing.
 use mathlib.Core.Logic.{inl, inr}
 use borrow.Author.Needs.{needs}
 use Rattle.arithmetic.proofs.MulAddAlign.{product-exponent-zero, product-exponent-sum}

@@ -1,4 +1,4 @@
--- `arithmetic::mul_add::round_guarded` meets its contract: a law of `MulAddPack` below a tie, at it and above it. Assumes nothing.
+-- `mul_add::round_guarded` meets its contract: a law of `MulAddPack` below a tie, at it and above it. Assumes nothing.
 use Prim.Native.Nat.{_/_}
 use native.Mathlib.Omega.{arith}
 use lib.Bits.{mask-lt}

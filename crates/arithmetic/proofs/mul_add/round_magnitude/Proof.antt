@@ -1,4 +1,4 @@
--- `arithmetic::mul_add::round_magnitude` meets its contract, by `guarded-round`. Assumes nothing.
+-- `mul_add::round_magnitude` meets its contract, by `guarded-round`. Assumes nothing.
 use mathlib.Core.Path.{_∙_}
 use Rattle.arithmetic.proofs.MulAddGuarded.{guarded-round}
 use borrow.Author.Needs.{needs}

@@ -1,4 +1,4 @@
--- `arithmetic::mul_add::sum_terms` meets its contract: a law of `SumOneScale` for each order of the terms. Assumes nothing.
+-- `mul_add::sum_terms` meets its contract: a law of `SumOneScale` for each order of the terms. Assumes nothing.
 use mathlib.Core.Path.{_≡_, sym, ap, _∙_}
 use mathlib.Core.Bool.{Bool, true, false, _&&_}
 use native.Mathlib.Nat.{le-of-lt}

@@ -1,4 +1,4 @@
--- `arithmetic::mul_add::to_guarded` meets its contract: `guarded-zero`, or what `to_guarded_above` ensures. Assumes nothing.
+-- `mul_add::to_guarded` meets its contract: `guarded-zero`, or what `to_guarded_above` ensures. Assumes nothing.
 use mathlib.Core.Path.{sym, _∙_}
 use Prim.Native.Nat.{_+_, _≤_, _<_, _^_}
 use lib.Ieee.{size}

@@ -1,4 +1,4 @@
--- `arithmetic::mul_add::to_guarded_above` meets its contract, by the laws of `MulAddGuarded`. Assumes nothing.
+-- `mul_add::to_guarded_above` meets its contract, by the laws of `MulAddGuarded`. Assumes nothing.
 use mathlib.Core.Path.{ap, _∙_, subst}
 use Prim.Native.Nat.{ℕ, _+_, _-_, _<_}
 use Rattle.arithmetic.specs.Internal.Pair.{val}

@@ -1,4 +1,4 @@
--- `arithmetic::mul_add::with_sign` meets its contract: a clear sign adds nothing to the pattern. Assumes nothing.
+-- `mul_add::with_sign` meets its contract: a clear sign adds nothing to the pattern. Assumes nothing.
 use mathlib.Core.Path.{sym, ap, _∙_}
 use mathlib.Core.Bool.{Bool, cond}
 use Prim.Native.Nat.{_+_, _^_}

@@ -1,4 +1,4 @@
--- `arithmetic::pair::add` meets its contract: a law of `Pairs` with a carry, and one without. Assumes nothing.
+-- `pair::add` meets its contract: a law of `Pairs` with a carry, and one without. Assumes nothing.
 use Prim.Native.Nat.{_^_, _<_}
 use native.Mathlib.Omega.{arith}
 use borrow.Author.Needs.{needs}

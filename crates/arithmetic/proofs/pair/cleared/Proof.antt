@@ -1,4 +1,4 @@
--- `arithmetic::pair::cleared` meets its contract: down and up again, and 0 from 128 bits on. Assumes nothing.
+-- `pair::cleared` meets its contract: down and up again, and 0 from 128 bits on. Assumes nothing.
 use mathlib.Core.Path.{sym, ap, _∙_, subst}
 use Prim.Native.Nat.{ℕ, _*_, _^_, _<_}
 use borrow.Author.Needs.{needs}

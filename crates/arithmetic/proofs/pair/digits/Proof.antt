@@ -1,4 +1,4 @@
--- `arithmetic::pair::digits` meets its contract: by the zeros that lead the lower half where the upper is 0, else by those that lead the upper.
+-- `pair::digits` meets its contract: by the zeros that lead the lower half where the upper is 0, else by those that lead the upper.
 -- Assumes nothing.
 use Prim.Native.Nat.{_≤_, _^_, _<_}
 use native.Mathlib.Omega.{arith}

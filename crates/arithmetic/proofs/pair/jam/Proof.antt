@@ -1,4 +1,4 @@
--- `arithmetic::pair::jam` meets its contract: a law of `Pairs` where anything is cut, and one where nothing is. Assumes nothing.
+-- `pair::jam` meets its contract: a law of `Pairs` where anything is cut, and one where nothing is. Assumes nothing.
 use mathlib.Core.Path.{_≡_, sym, ap, _∙_, subst}
 use Prim.Native.Nat.{ℕ, _+_, _*_, _/_, _^_, _≤_, _<_}
 use native.Mathlib.Nat.{lt-of-le-of-lt}

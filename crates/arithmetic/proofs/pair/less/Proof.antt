@@ -1,4 +1,4 @@
--- `arithmetic::pair::less` meets its contract: the upper halves decide, and the lower ones where those are equal. Assumes nothing.
+-- `pair::less` meets its contract: the upper halves decide, and the lower ones where those are equal. Assumes nothing.
 use mathlib.Core.Path.{sym}
 use Prim.Native.Nat.{_^_, _<_}
 use native.Mathlib.Nat.{le-of-lt, le-antisymm}

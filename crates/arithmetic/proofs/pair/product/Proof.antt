@@ -1,4 +1,4 @@
--- `arithmetic::pair::product` meets its contract: the four products of halves of 32 bits are small, and add up to the product. Assumes nothing.
+-- `pair::product` meets its contract: the four products of halves of 32 bits are small, and add up to the product. Assumes nothing.
 use mathlib.Core.Path.{_∙_}
 use native.Mathlib.Omega.{arith}
 use Rattle.arithmetic.proofs.Pairs.{PartsSmall, parts-small, product-is, product-fits}

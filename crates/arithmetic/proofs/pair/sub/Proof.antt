@@ -1,4 +1,4 @@
--- `arithmetic::pair::sub` meets its contract: a law of `Pairs` with a borrow, and one without. Assumes nothing.
+-- `pair::sub` meets its contract: a law of `Pairs` with a borrow, and one without. Assumes nothing.
 use Prim.Native.Nat.{_^_, _<_}
 use native.Mathlib.Omega.{arith}
 use borrow.Author.Needs.{needs}

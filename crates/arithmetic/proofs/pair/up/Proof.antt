@@ -1,4 +1,4 @@
--- `arithmetic::pair::up` meets its contract: a law of `Pairs` for each range of the shift. Assumes nothing.
+-- `pair::up` meets its contract: a law of `Pairs` for each range of the shift. Assumes nothing.
 use Prim.Native.Nat.{_^_, _<_}
 use native.Mathlib.Omega.{arith}
 use borrow.Author.Needs.{needs}

@@ -1,4 +1,4 @@
--- `arithmetic::sqrt::by_digits` meets its contract, by the laws of `SqrtDigits`. The invariant: r is the whole root of the upper digits. The measure is the
+-- `sqrt::by_digits` meets its contract, by the laws of `SqrtDigits`. The invariant: r is the whole root of the upper digits. The measure is the
 -- iterations that are left. Assumes nothing.
 use Prim.Native.Nat.{_-_, _≤_}
 use mathlib.Core.Logic.{⊎-elim}

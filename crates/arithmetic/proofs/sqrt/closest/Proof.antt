@@ -1,4 +1,4 @@
--- `arithmetic::sqrt::closest` meets its contract: what passes the test is nearest. Assumes nothing.
+-- `sqrt::closest` meets its contract: what passes the test is nearest. Assumes nothing.
 use borrow.Author.Needs.{needs}
 use denote.Floats.{passes}
 use Rattle.arithmetic.proofs.sqrt.closest.Statement.{statement}

@@ -1,4 +1,4 @@
--- `arithmetic::sqrt::estimate` is safe: its two patterns are of numbers. Assumes nothing.
+-- `sqrt::estimate` is safe: its two patterns are of numbers. Assumes nothing.
 use borrow.Author.Needs.{needs}
 use native.Mathlib.Omega.{arith}
 use Rattle.arithmetic.specs.Laws.Patterns.{bits-no-nan}

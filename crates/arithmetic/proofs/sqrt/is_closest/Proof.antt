@@ -1,4 +1,4 @@
--- `arithmetic::sqrt::is_closest` meets its contract: what passes its tests is the nearest root, by `tested`. Assumes nothing.
+-- `sqrt::is_closest` meets its contract: what passes its tests is the nearest root, by `tested`. Assumes nothing.
 use native.Mathlib.Omega.{arith}
 use borrow.Author.Needs.{needs}
 use lib.Dec.{leb→le}

@@ -1,4 +1,4 @@
--- `arithmetic::sqrt::of_normal` meets its contract: the nearest root has the pattern of the rounded root, for an even and for an odd exponent. Assumes nothing.
+-- `sqrt::of_normal` meets its contract: the nearest root has the pattern of the rounded root, for an even and for an odd exponent. Assumes nothing.
 use mathlib.Core.Path.{_≡_, sym, ap, _∙_}
 use mathlib.Core.Logic.{⊎-elim}
 use Prim.Native.Nat.{ℕ, _+_, _*_, _/_}

@@ -1,4 +1,4 @@
--- `arithmetic::sqrt::of_subnormal` meets its contract, by the laws of `SqrtPaths`. Assumes nothing.
+-- `sqrt::of_subnormal` meets its contract, by the laws of `SqrtPaths`. Assumes nothing.
 use Rattle.arithmetic.specs.Laws.Patterns.{bits-no-nan}
 use Rattle.arithmetic.proofs.Integers.{integer-fits}
 use Rattle.arithmetic.proofs.SqrtPaths.{whole-no-nan, whole-normal, of-whole}

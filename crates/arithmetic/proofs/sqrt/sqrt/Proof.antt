@@ -1,4 +1,4 @@
--- `arithmetic::sqrt::sqrt` meets its contract: a law of `SqrtPaths`, or the contract of the function called, for each path. Assumes nothing.
+-- `sqrt::sqrt` meets its contract: a law of `SqrtPaths`, or the contract of the function called, for each path. Assumes nothing.
 use mathlib.Core.Path.{_≡_, sym, ap, _∙_, subst}
 use lib.Dec.{T}
 use lib.Ieee.{Float, binary64, fits, isNan, toBits, ofBits}

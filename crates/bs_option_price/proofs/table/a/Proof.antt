@@ -1,4 +1,4 @@
--- The part of the table in each arm of the match is the definition's row. Assumes nothing.
+-- `table::a` meets its contract: the part of the table in each arm of the match is the definition's row. Assumes nothing.
 use mathlib.Core.Path.{_≡_, _∙_}
 use Prim.Native.Nat.{ℕ, zero, suc, _≤_}
 use native.Mathlib.Omega.{arith}

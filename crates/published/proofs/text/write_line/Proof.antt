@@ -1,4 +1,4 @@
--- The two tests are what the cast to an integer asks. Assumes nothing.
+-- `text::write_line` meets its contract: the two tests are what the cast to an integer asks. Assumes nothing.
 use mathlib.Core.Path.{sym, subst}
 use lib.Dec.{T}
 use lib.Ieee.{ofBits, neg}

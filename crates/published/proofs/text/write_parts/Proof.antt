@@ -1,4 +1,4 @@
--- The point in place of the first digit leaves the array's length as it was. Assumes nothing.
+-- `text::write_parts` meets its contract: the point in place of the first digit leaves the array's length as it was. Assumes nothing.
 use mathlib.Core.Path.{sym}
 use lib.ListN.{length-set}
 use lib.Seq.{length-take-le}

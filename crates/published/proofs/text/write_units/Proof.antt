@@ -1,4 +1,4 @@
--- A remainder is below its divisor, so that the sum fits. Assumes nothing.
+-- `text::write_units` meets its contract: a remainder is below its divisor, so that the sum fits. Assumes nothing.
 use native.Mathlib.Omega.{arith}
 use native.Mathlib.Nat.{mod-lt}
 use borrow.Author.Needs.{needs}

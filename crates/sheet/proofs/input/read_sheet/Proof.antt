@@ -1,4 +1,5 @@
--- Invariant: what is read is within the buffer. Measure: the room left, since a read that goes on moves a byte. Assumes nothing.
+-- `input::read_sheet` meets its contract. Invariant: what is read is within the buffer. Measure: the room left, since a read that goes on moves a byte.
+-- Assumes nothing.
 use mathlib.Core.Path.{_≡_}
 use Prim.Native.Nat.{_≤_, _-_}
 use lib.ListN.{length}

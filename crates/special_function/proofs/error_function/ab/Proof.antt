@@ -1,4 +1,4 @@
--- Straight: the operations are the definition's. Assumes nothing.
+-- `error_function::ab` meets its contract: the operations are the definition's. Assumes nothing.
 use borrow.Author.Needs.{needs}
 use Rattle.special_function.specs.ErrorFunction.{ab}
 use Rattle.special_function.proofs.error_function.ab.Statement.{statement}

@@ -1,4 +1,4 @@
--- The tests that led to each return pick the definition's case. Assumes nothing.
+-- `error_function::erfc_cody` meets its contract: the tests that led to each return pick the definition's case. Assumes nothing.
 use Rattle.special_function.specs.ErrorFunction.{erfcCody}
 use Rattle.special_function.proofs.error_function.erfc_cody.Statement.{statement}
 use Rattle.special_function.proofs.error_function.erfc_cody.Tie as tie

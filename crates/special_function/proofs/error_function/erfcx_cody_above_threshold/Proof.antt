@@ -1,4 +1,4 @@
--- The tests that led to each return pick the definition's case. Assumes nothing.
+-- `error_function::erfcx_cody_above_threshold` meets its contract: the tests that led to each return pick the definition's case. Assumes nothing.
 use Rattle.special_function.specs.ErrorFunction.{erfcxCodyAboveThreshold}
 use Rattle.special_function.proofs.error_function.erfcx_cody_above_threshold.Statement.{statement}
 use Rattle.special_function.proofs.error_function.erfcx_cody_above_threshold.Tie as tie

@@ -1,4 +1,4 @@
--- The tests that led to each return pick the definition's case. Assumes nothing.
+-- `error_function::erfinv` meets its contract: the tests that led to each return pick the definition's case. Assumes nothing.
 use Rattle.special_function.specs.Erfinv.{erfinv}
 use Rattle.special_function.proofs.error_function.erfinv.Statement.{statement}
 use Rattle.special_function.proofs.error_function.erfinv.Tie as tie

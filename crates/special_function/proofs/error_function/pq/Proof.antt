@@ -1,4 +1,4 @@
--- Straight: the operations are the definition's. Assumes nothing.
+-- `error_function::pq` meets its contract: the operations are the definition's. Assumes nothing.
 use borrow.Author.Needs.{needs}
 use Rattle.special_function.specs.ErrorFunction.{pq}
 use Rattle.special_function.proofs.error_function.pq.Statement.{statement}

@@ -1,5 +1,5 @@
--- Invariant: the sum at which the definition stops from here is the definition's. Measure: the last term's magnitude, in units of 2 ^ -1074.
--- Assumes nothing.
+-- `normal_distribution::asymptotic_sum` meets its contract. Invariant: the sum at which the definition stops from here is the definition's. Measure: the
+-- last term's magnitude, in units of 2 ^ -1074. Assumes nothing.
 use mathlib.Core.Path.{_≡_, sym, _∙_}
 use mathlib.Core.Bool.{true}
 use borrow.Author.Tests.{not-true, not-false}

@@ -1,4 +1,5 @@
--- The tests that led to each return pick the definition's case. Assumes nothing.
+-- `normal_distribution::inverse_norm_cdf_for_low_probabilities` meets its contract: the tests that led to each return pick the definition's case.
+-- Assumes nothing.
 use mathlib.Core.Path.{_≡_}
 use lib.Ieee.{neg}
 use borrow.Author.Needs.{needs}

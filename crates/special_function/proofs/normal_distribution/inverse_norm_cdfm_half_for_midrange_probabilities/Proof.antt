@@ -1,4 +1,5 @@
--- Straight, and the code's U_MAX2 is the square, computed. Assumes nothing.
+-- `normal_distribution::inverse_norm_cdfm_half_for_midrange_probabilities` meets its contract: the operations are the definition's, and the code's
+-- U_MAX2 is the square, computed. Assumes nothing.
 use mathlib.Core.Path.{_≡_, refl}
 use borrow.Author.Needs.{needs}
 use lib.Ieee.{mul, ofBits}

@@ -1,4 +1,4 @@
--- The tests that led to each return pick the definition's case. Assumes nothing.
+-- `normal_distribution::norm_cdf` meets its contract: the tests that led to each return pick the definition's case. Assumes nothing.
 use Rattle.special_function.specs.NormalDistribution.{normCdf}
 use Rattle.special_function.proofs.normal_distribution.norm_cdf.Statement.{statement}
 use Rattle.special_function.proofs.normal_distribution.norm_cdf.Tie as tie

@@ -1,4 +1,4 @@
--- Straight: the operations are the definition's. Assumes nothing.
+-- `normal_distribution::norm_pdf` meets its contract: the operations are the definition's. Assumes nothing.
 use Rattle.special_function.specs.NormalDistribution.{normPdf}
 use Rattle.special_function.proofs.normal_distribution.norm_pdf.Statement.{statement}
 use Rattle.special_function.proofs.normal_distribution.norm_pdf.Tie as tie

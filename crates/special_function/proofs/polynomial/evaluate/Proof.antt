@@ -1,4 +1,5 @@
--- Invariant: the coefficients that are left take the value to the result. Measure: how many are left. Assumes nothing.
+-- `polynomial::evaluate` meets its contract. Invariant: the coefficients that are left take the value to the result. Measure: how many are left. Assumes
+-- nothing.
 use mathlib.Core.Path.{_≡_, refl, _∙_}
 use mathlib.Core.List.{List}
 use Prim.Native.Nat.{ℕ, _+_, _≤_, _<_, _-_}

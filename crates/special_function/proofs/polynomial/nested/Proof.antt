@@ -1,4 +1,4 @@
--- Nested calls are Horner's chain from the first coefficient. Assumes nothing.
+-- `polynomial::nested` meets its contract: nested calls are Horner's chain from the first coefficient. Assumes nothing.
 use mathlib.Core.Path.{_≡_, refl, sym, ap, _∙_}
 use mathlib.Core.List.{List, [], _∷_}
 use Prim.Native.Nat.{ℕ, suc, _-_, _<_}

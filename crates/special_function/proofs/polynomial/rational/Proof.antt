@@ -1,4 +1,4 @@
--- What each call ensures, put in. Assumes nothing.
+-- `polynomial::rational` meets its contract: what each call ensures, put in. Assumes nothing.
 use Rattle.special_function.proofs.polynomial.rational.Statement.{statement}
 use Rattle.special_function.proofs.polynomial.rational.Tie as tie
 

@@ -1,4 +1,4 @@
--- No bits of a NaN are read. Assumes nothing.
+-- `text::write_line` meets its contract: no bits of a NaN are read. Assumes nothing.
 use Rattle.arithmetic.specs.Laws.Signs.{has-bits}
 use borrow.Author.Needs.{needs}
 use Rattle.vectors.proofs.text.write_line.Statement.{statement}

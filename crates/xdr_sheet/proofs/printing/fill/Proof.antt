@@ -1,4 +1,5 @@
--- Invariant: some lines are in the buffer, and what else goes into it comes after them. Measure: the lines still to come. Assumes nothing.
+-- `printing::fill` meets its contract. Invariant: some lines are in the buffer, and what else goes into it comes after them. Measure: the lines still to
+-- come. Assumes nothing.
 use mathlib.Core.Path.{sym, _∙_}
 use native.Mathlib.Omega.{arith}
 use Rattle.xdr_sheet.specs.Printing.{left}

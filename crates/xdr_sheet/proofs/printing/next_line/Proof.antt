@@ -1,4 +1,4 @@
--- The sheet's size, and whether it has the quote after those tallied, pick the line. Assumes nothing.
+-- `printing::next_line` meets its contract: the sheet's size, and whether it has the quote after those tallied, pick the line. Assumes nothing.
 use mathlib.Core.Path.{_≡_, sym, ap, _∙_}
 use Rattle.xdr_sheet.specs.Tally.{tallyCount}
 use Rattle.xdr_sheet.specs.Sheet.{quotes, size, sheetReply}

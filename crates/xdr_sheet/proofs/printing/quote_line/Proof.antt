@@ -1,4 +1,4 @@
--- Straight: the line has the number after those tallied. Assumes nothing.
+-- `printing::quote_line` meets its contract: the line has the number after those tallied. Assumes nothing.
 use borrow.Author.Needs.{needs}
 use Rattle.xdr_sheet.proofs.printing.quote_line.Statement.{statement}
 use Rattle.xdr_sheet.proofs.printing.quote_line.Tie as tie

@@ -1,4 +1,4 @@
--- Straight: each figure is read where the definition reads it. Assumes nothing.
+-- `sheet::quote` meets its contract: each figure is read where the definition reads it. Assumes nothing.
 use Rattle.xdr_sheet.specs.Laws.Sheet.{reply-from}
 use borrow.Author.Needs.{needs}
 use Rattle.xdr_sheet.proofs.sheet.quote.Statement.{statement}

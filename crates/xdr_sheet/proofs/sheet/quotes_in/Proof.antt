@@ -1,4 +1,4 @@
--- The tests that led to each return pick the definition's case. Assumes nothing.
+-- `sheet::quotes_in` meets its contract: the tests that led to each return pick the definition's case. Assumes nothing.
 use Rattle.xdr_sheet.specs.Laws.Sheet.{size-short, size-many, size-whole, size-other}
 use borrow.Author.Needs.{needs}
 use native.Mathlib.Omega.{arith}

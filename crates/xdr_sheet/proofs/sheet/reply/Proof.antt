@@ -1,4 +1,4 @@
--- The sheet's size and the index pick the case. Assumes nothing.
+-- `sheet::reply` meets its contract: the sheet's size and the index pick the case. Assumes nothing.
 use mathlib.Core.Path.{_≡_, sym, ap, _∙_}
 use Rattle.xdr_sheet.specs.Sheet.{quotes, size, replied}
 use Rattle.xdr_sheet.specs.Replies.{viewSize}

@@ -1,4 +1,4 @@
--- Straight: the tally's numbers between their letters and spaces. Assumes nothing.
+-- `text::closing_line` meets its contract: the tally's numbers between their letters and spaces. Assumes nothing.
 use Rattle.xdr_sheet.specs.Text.{closing}
 use Rattle.xdr_sheet.proofs.Lines.{_then_, from-empty}
 use borrow.Author.Needs.{needs}

@@ -1,4 +1,4 @@
--- Invariant: the first i bytes are copied, and the others are as before. Measure: how many are left. Assumes nothing.
+-- `text::copy` meets its contract. Invariant: the first i bytes are copied, and the others are as before. Measure: how many are left. Assumes nothing.
 use mathlib.Core.Path.{_≡_, refl, ap, _∙_}
 use mathlib.Core.List.{_++_}
 use Prim.Native.Nat.{_≤_, _-_}

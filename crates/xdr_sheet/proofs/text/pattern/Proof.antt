@@ -1,4 +1,4 @@
--- What differs from itself is NaN; anything else has one pattern. Assumes nothing.
+-- `text::pattern` meets its contract: what differs from itself is NaN; anything else has one pattern. Assumes nothing.
 use Rattle.arithmetic.specs.Laws.Signs.{has-bits}
 use Rattle.xdr_sheet.proofs.Patterns.{nan-pattern}
 use borrow.Author.Needs.{needs}

@@ -1,4 +1,4 @@
--- The test says whether the text fits. Assumes nothing.
+-- `text::place` meets its contract: the test says whether the text fits. Assumes nothing.
 use native.Mathlib.Omega.{arith}
 use Rattle.xdr_sheet.specs.Internal.Lines.{written}
 use Rattle.xdr_sheet.proofs.Lines.{no-room, with-room}

@@ -1,4 +1,4 @@
--- Straight: the refusal's number between its letter and the line's end. Assumes nothing.
+-- `text::refused_line` meets its contract: the refusal's number between its letter and the line's end. Assumes nothing.
 use Rattle.xdr_sheet.specs.Text.{refusedSheet}
 use Rattle.xdr_sheet.proofs.Lines.{_then_, from-empty}
 use borrow.Author.Needs.{needs}

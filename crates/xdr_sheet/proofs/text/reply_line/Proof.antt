@@ -1,4 +1,4 @@
--- The quote's number, then the fields of its answer or its refusal. Assumes nothing.
+-- `text::reply_line` meets its contract: the quote's number, then the fields of its answer or its refusal. Assumes nothing.
 use Rattle.xdr_sheet.proofs.Lines.{answer-line, refusal-line}
 use borrow.Author.Needs.{needs}
 use Rattle.xdr_sheet.proofs.text.reply_line.Statement.{statement}

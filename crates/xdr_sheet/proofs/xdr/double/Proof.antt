@@ -1,4 +1,4 @@
--- Straight: the value of the pattern. Assumes nothing.
+-- `xdr::double` meets its contract: the value of the pattern. Assumes nothing.
 use mathlib.Core.Path.{ap, _∙_}
 use lib.Ieee.{binary64, ofBits}
 use Rattle.xdr_sheet.specs.Xdr.{double}

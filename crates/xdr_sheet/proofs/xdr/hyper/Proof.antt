@@ -1,4 +1,4 @@
--- The test is the definition's: two words where their bytes are all there, and 0 where not. Assumes nothing.
+-- `xdr::hyper` meets its contract: the test is the definition's: two words where their bytes are all there, and 0 where not. Assumes nothing.
 use mathlib.Core.Path.{sym, _∙_}
 use Prim.Native.Nat.{_+_, _≤_}
 use native.Mathlib.Omega.{arith}

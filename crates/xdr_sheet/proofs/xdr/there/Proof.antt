@@ -1,4 +1,4 @@
--- The test of what is left after `at` is the test of the sum, which could wrap. Assumes nothing.
+-- `xdr::there` meets its contract: the test of what is left after `at` is the test of the sum, which could wrap. Assumes nothing.
 use mathlib.Core.Path.{_≡_, refl, sym}
 use mathlib.Core.Bool.{Bool, true, false}
 use Prim.Native.Nat.{ℕ, _+_, _-_, _≤_}

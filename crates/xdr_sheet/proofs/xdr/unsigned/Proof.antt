@@ -1,4 +1,4 @@
--- The test is the definition's: a word where its bytes are all there, and 0 where not. Assumes nothing.
+-- `xdr::unsigned` meets its contract: the test is the definition's: a word where its bytes are all there, and 0 where not. Assumes nothing.
 use mathlib.Core.Path.{sym, _∙_}
 use borrow.Author.Tests.{leb-true}
 use Rattle.xdr_sheet.specs.Xdr.{unsigned}

@@ -1,4 +1,4 @@
--- The test is the one that tells the patterns of NaN. Assumes nothing.
+-- `xdr::value` meets its contract: the test is the one that tells the patterns of NaN. Assumes nothing.
 use mathlib.Core.Path.{sym, _∙_, subst}
 use mathlib.Core.Bool.{Bool, not}
 use borrow.Author.Tests.{lt-ltb, le-ltb}

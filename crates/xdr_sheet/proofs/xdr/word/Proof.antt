@@ -1,4 +1,4 @@
--- Straight: the bounds of the bytes keep each sum within a u64. Assumes nothing.
+-- `xdr::word` meets its contract: the bounds of the bytes keep each sum within a u64. Assumes nothing.
 use native.Mathlib.Omega.{arith}
 use Rattle.xdr_sheet.specs.Xdr.{word}
 use borrow.Author.Needs.{needs}

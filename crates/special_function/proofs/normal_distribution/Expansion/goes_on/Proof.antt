@@ -1,4 +1,4 @@
--- Both parts of the test, in the definition's order. Assumes nothing.
+-- `normal_distribution::Expansion::goes_on` meets its contract: both parts of the test, in the definition's order. Assumes nothing.
 use Rattle.special_function.specs.NormalDistribution.{goesOn}
 use Rattle.special_function.proofs.normal_distribution.Expansion.goes_on.Statement.{statement}
 use Rattle.special_function.proofs.normal_distribution.Expansion.goes_on.Tie as tie

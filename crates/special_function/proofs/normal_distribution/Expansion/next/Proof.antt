@@ -1,4 +1,4 @@
--- Straight: the operations are the definition's. Assumes nothing.
+-- `normal_distribution::Expansion::next` meets its contract: the operations are the definition's. Assumes nothing.
 use Rattle.special_function.specs.NormalDistribution.{next}
 use Rattle.special_function.proofs.normal_distribution.Expansion.next.Statement.{statement}
 use Rattle.special_function.proofs.normal_distribution.Expansion.next.Tie as tie

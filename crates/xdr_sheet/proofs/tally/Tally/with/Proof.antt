@@ -1,4 +1,4 @@
--- By the kind of the reply. Assumes nothing.
+-- `tally::Tally::with` meets its contract: by the kind of the reply. Assumes nothing.
 use borrow.Author.Needs.{needs}
 use Rattle.xdr_sheet.proofs.tally.Tally.with.Statement.{statement}
 use Rattle.xdr_sheet.proofs.tally.Tally.with.Tie as tie

@@ -1,4 +1,4 @@
--- Straight: two patterns and the count, between the letter, spaces and the line's end. Assumes nothing.
+-- `text::Line::answer` meets its contract: two patterns and the count, between the letter, spaces and the line's end. Assumes nothing.
 use Rattle.xdr_sheet.specs.Text.{answerFields}
 use Rattle.xdr_sheet.proofs.Lines.{_then_}
 use borrow.Author.Needs.{needs}

@@ -1,4 +1,4 @@
--- The byte stands in the array after the text, and the text is one byte longer. Assumes nothing.
+-- `text::Line::byte` meets its contract: the byte stands in the array after the text, and the text is one byte longer. Assumes nothing.
 use mathlib.Core.Path.{refl}
 use Rattle.xdr_sheet.proofs.Lines.{one-more, room}
 use borrow.Author.Needs.{needs}

@@ -1,4 +1,4 @@
--- Invariant: the line has the first i bytes after its text. Measure: how many are left. Assumes nothing.
+-- `text::Line::bytes` meets its contract. Invariant: the line has the first i bytes after its text. Measure: how many are left. Assumes nothing.
 use Prim.Native.Nat.{_≤_, _-_}
 use native.Mathlib.Omega.{arith}
 use borrow.Author.Needs.{needs}

@@ -1,4 +1,4 @@
--- The array has 80 bytes, so that a text of more is one of 80. Assumes nothing.
+-- `text::Line::count` meets its contract: the array has 80 bytes, so that a text of more is one of 80. Assumes nothing.
 use native.Mathlib.Omega.{arith}
 use Rattle.xdr_sheet.proofs.Lines.{written-below, written-above}
 use Rattle.xdr_sheet.proofs.text.Line.count.Statement.{statement}

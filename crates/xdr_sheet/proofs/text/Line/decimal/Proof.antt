@@ -1,4 +1,4 @@
--- A u64 has 20 digits at most. Assumes nothing.
+-- `text::Line::decimal` meets its contract: a u64 has 20 digits at most. Assumes nothing.
 use mathlib.Core.Path.{_∙_}
 use Prim.Native.Nat.{_≤_}
 use native.Mathlib.Omega.{arith}

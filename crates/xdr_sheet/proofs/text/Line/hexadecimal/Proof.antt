@@ -1,4 +1,4 @@
--- A u64 has 16 hexadecimal digits, zeros in front. Assumes nothing.
+-- `text::Line::hexadecimal` meets its contract: a u64 has 16 hexadecimal digits, zeros in front. Assumes nothing.
 use mathlib.Core.Path.{_≡_, _∙_}
 use native.Mathlib.Omega.{arith}
 use Rattle.xdr_sheet.proofs.Lines.{same-text, hexadecimal-is, sixteen}

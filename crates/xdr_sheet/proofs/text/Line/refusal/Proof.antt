@@ -1,4 +1,4 @@
--- Straight: the refusal's number and the count, between the letter, a space and the line's end. Assumes nothing.
+-- `text::Line::refusal` meets its contract: the refusal's number and the count, between the letter, a space and the line's end. Assumes nothing.
 use Rattle.xdr_sheet.specs.Text.{refusalFields}
 use Rattle.xdr_sheet.proofs.Lines.{_then_}
 use borrow.Author.Needs.{needs}

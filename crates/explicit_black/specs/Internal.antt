@@ -1,4 +1,5 @@
--- Definitions that only serve the code: contracts of inner functions cite them, and no entry's contract rests on them, so nobody has to believe them.
+-- What the code's own types say in those of the definitions, for the contracts of the curves, the searches and the steps of a quote. The contracts of
+-- the two entries do without them.
 pub mod Searches
 pub mod Quote
 pub mod Contracts

@@ -7,7 +7,7 @@ use Rattle.arithmetic.specs.Operations.{bits}
 abbrev pub sqrtPiOver2 : Float
 sqrtPiOver2 = bits 0x3FF4_0D93_1FF6_2706
 
--- 2 ^ (-52 / 16)
+-- 2 ^ (-52 / 16), by the source's literal, which is one unit in the last place above the nearest value
 abbrev pub sixteenthRootDblEpsilon : Float
 sixteenthRootDblEpsilon = bits 0x3FBA_E89F_995A_D3AE
 

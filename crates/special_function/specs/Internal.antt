@@ -1,2 +1,2 @@
--- Definitions that only serve the code: what the contracts of its inner steps cite.
+-- What a step of the code promises that the source does not have.
 pub mod SharedExponential

@@ -155,7 +155,7 @@ tenth n k h f = (
         ap (λ (x : ℕ). 10 ^ x) (less-one (suc (suc k))) ∙ pow-suc 10 (suc k) ∙ ap (λ (x : ℕ). 10 ^ x * 10) (sym (less-one (suc k)))
     same zero g = absurd (lt-irrefl 1 g)
 
-pub places-is : (f n k : ℕ) → n < 10 ^ suc f → Fewest 10 1 n k → places f n ≡ k
+places-is : (f n k : ℕ) → n < 10 ^ suc f → Fewest 10 1 n k → places f n ≡ k
 unfolding places
 places-is zero n k h f = one-digit n k h f
 places-is (suc f) n k h g =

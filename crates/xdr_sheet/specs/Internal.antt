@@ -1,3 +1,3 @@
--- Definitions that only serve the code: lines in memory, and what the code's structs stand for.
+-- What the code's lines in memory and its structs stand for, for the contracts of what prints.
 pub mod Lines
 pub mod Printing

@@ -11,7 +11,7 @@ use Rattle.io.specs.Digits.{digits}
 use Rattle.explicit_black.specs.Quote.{Reply, answer, refusal}
 use Rattle.xdr_sheet.specs.declared.tally.Tally.{Tally}
 
--- the bytes of a replied text
+-- the bytes of a text in quotation marks
 abbrev pub ascii : String → List ℕ
 ascii none = []
 ascii (c before s) = code c ∷ ascii s

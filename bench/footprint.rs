@@ -1,13 +1,14 @@
 //! What a quote and a sheet take of the machine: instructions, stack, text and constants.
 
 use crate::{ours, timing};
-use oracle::inputs::{KINDS, Quote, Quotes};
+use oracle::inputs::{KINDS, Quote, Quotes, Rng};
 use std::arch::asm;
 use std::io::Write;
 use std::path::Path;
 use std::process::{Command, Stdio};
 
 const QUOTES: usize = 2000;
+const NEAR_BOUND: usize = 200_000;
 const PAINT: u64 = 0xA5A5_A5A5_A5A5_A5A5;
 const WORDS: usize = 4096;
 
@@ -83,6 +84,18 @@ fn quote_stack(stack: &mut [u64], q: Quote) -> usize {
     top as usize - (stack.as_ptr() as usize + 8 * untouched)
 }
 
+/// Calls and puts at all distances from the bound of their price, where an exponential may leave its fast path.
+fn near_bound(length: usize) -> Vec<Quote> {
+    let mut rng = Rng::new(1);
+    let quote = |i: usize| {
+        let (bound, other) = (100.0, 100.0 * 0.5f64.powf(2.0 * rng.unit() - 1.0));
+        let price = bound * (1.0 - 10f64.powf(-1.0 - 7.0 * rng.unit()));
+        let (forward, strike) = if i % 2 == 0 { (bound, other) } else { (other, bound) };
+        Quote { side: (i % 2) as u32, price, forward, strike, time: 1.0 }
+    };
+    (0..length).map(quote).collect()
+}
+
 /// The most over quotes of every kind.
 fn quotes_stack() -> usize {
     let mut stack = vec![PAINT; WORDS];
@@ -91,13 +104,17 @@ fn quotes_stack() -> usize {
         let mut source = Quotes::new(kind, 1);
         (0..QUOTES).for_each(|_| most = most.max(quote_stack(&mut stack, source.next())));
     }
+    near_bound(NEAR_BOUND).into_iter().for_each(|q| most = most.max(quote_stack(&mut stack, q)));
     most
 }
 
-/// A sheet of 1,000 desk quotes.
+/// A sheet of 1,000 quotes near the bound of their price: of those painted, the ones that took most stack.
 fn sheet() -> Vec<u8> {
     let mut bytes = 1000u32.to_be_bytes().to_vec();
-    for q in timing::desk(1000) {
+    let mut stack = vec![PAINT; WORDS];
+    let mut list = near_bound(NEAR_BOUND);
+    list.sort_by_cached_key(|&q| std::cmp::Reverse(quote_stack(&mut stack, q)));
+    for q in list.into_iter().take(1000) {
         bytes.extend(q.side.to_be_bytes());
         [q.price, q.forward, q.strike, q.time].iter().for_each(|x| bytes.extend(x.to_bits().to_be_bytes()));
     }
@@ -153,7 +170,7 @@ pub fn table(target: &Path) {
     print("library: text, bytes", library.map(|[text, _]| text), "size");
     print("library: constants, bytes", library.map(|[_, constants]| constants), "size");
     print("library: both, of 98304", library.map(|[text, constants]| text + constants), "size");
-    print(&format!("stack of a quote, most of {} (painted), of 4096", QUOTES * KINDS.len()), Some(quotes_stack()), "");
+    print(&format!("stack of a quote, most of {} (painted), of 4096", QUOTES * KINDS.len() + NEAR_BOUND), Some(quotes_stack()), "");
     let found = sheet_stack(&target.join("bin/sheet"), &target.join("bench/massif.out"));
     print("stack of program sheet, 1,000 quotes (massif), of 49152", found, "valgrind or target/bin/sheet");
 }

@@ -370,7 +370,7 @@ pub fn negative_abs_log_moneyness(f: f64, k: f64) -> f64
     let smaller = min(f, k);
     let larger = max(f, k);
     if smaller >= 0.5 * larger {
-        // the difference is exact here, so neighbouring prices have different logarithms
+        // the difference is exact here
         -ln_1p((larger - smaller) / smaller)
     } else {
         let ratio = smaller / larger;

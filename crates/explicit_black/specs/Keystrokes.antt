@@ -30,7 +30,7 @@ abbrev below : Float
 below = bits 0x3FEF_FFFF_FF80_0000
 
 pub record Keystrokes : Type 0 where
-  -- √4 is 2, and √2 ^ -1074 is 2 ^ -537
+  -- √4 is 2, and √(2 ^ -1074) is 2 ^ -537
   pub root-of-four : sqrt (bits 0x4010_0000_0000_0000) ≡ two
   pub root-of-least : sqrt (bits 1) ≡ bits 0x1E60_0000_0000_0000
   -- fused, (1 + 2 ^ -30)(1 - 2 ^ -30) - 1 is -2 ^ -60; two roundings give 0

@@ -6,6 +6,6 @@ pub mod Kinds
 pub mod Powers
 pub mod Quote
 pub mod Roots
-pub mod Steps
+pub mod ScaledPrice
 pub mod Tests
 pub mod ZeroPrice

@@ -1,1 +1,2 @@
+-- Laws that only the proofs of the C interface cite.
 mod SheetLine

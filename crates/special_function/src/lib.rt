@@ -1,3 +1,4 @@
+// Layer two: error functions, the normal distribution and its inverse, polynomials.
 pub mod constants;
 pub mod error_function;
 pub mod normal_distribution;

@@ -6,7 +6,7 @@ use lib.Ieee.{Float}
 use Rattle.explicit_black.specs.declared.quote.Solved.{Solved}
 use Rattle.explicit_black.specs.declared.quote.Solved.the-variants.{Total, Refused, Spent}
 use Rattle.explicit_black.specs.declared.quote.Tested.{Tested}
-use Rattle.explicit_black.specs.declared.quote.Tested.the-variants.{Total as Told, Refused as Denied, Open}
+use Rattle.explicit_black.specs.declared.quote.Tested.the-variants.{Total as TotalDecided, Refused as RefusalDecided, Open}
 use Rattle.explicit_black.specs.Counted.{Option, some, none, Counted, Metered, have, spent, limited}
 use Rattle.explicit_black.specs.Quote.{Outcome, total, refused, Reply, reply}
 
@@ -18,8 +18,8 @@ viewSolved Spent = spent
 
 -- what tests 5 and 6 decide, if anything
 abbrev pub viewTested : Tested → Option Outcome
-viewTested (Told v) = some (total v)
-viewTested (Denied number) = some (refused number)
+viewTested (TotalDecided v) = some (total v)
+viewTested (RefusalDecided number) = some (refused number)
 viewTested Open = none
 
 -- the allowance was not spent, and no more than n evaluations are left

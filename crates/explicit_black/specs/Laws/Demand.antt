@@ -29,7 +29,7 @@ use Rattle.bs_option_price.specs.Laws.Moneyness.{BoundedRatio, log-times, log-s
 use Rattle.explicit_black.specs.Counted.{Counted, atOnce}
 use Rattle.explicit_black.specs.Quote.{Outcome, refused, firstRefusal, fromPrice, fromQuote, impliedBlackVolatilityInput}
 use Rattle.explicit_black.specs.Demand.{Exactly, ComparableFigures, ComparableTimes, compared}
-use Rattle.explicit_black.specs.Laws.Steps.{Plain, from-price-times}
+use Rattle.explicit_black.specs.Laws.ScaledPrice.{Plain, from-price-times}
 use Rattle.explicit_black.specs.Laws.Quote.{compared-input}
 use Rattle.explicit_black.specs.Laws.ZeroPrice.{zeroOf, plusZero-is, refuted, zeros, zero-from-price}
 use Rattle.explicit_black.specs.Laws.Powers.{comparable, four-times}

@@ -3,9 +3,9 @@
 // a line: the quantity, rounded to so many decimals. A number that names no quantity ends the run.
 //
 // `stdin` and `stdout` are values of Abramowitz and Stegun, Handbook of Mathematical Functions, 1964:
-// table 7.1, erf x; table 7.3, x exp(x^2) erfc x; table 26.2, -log10 Q(x). They have not
-// been held beside a copy of the book; each agrees with mpmath at 60 digits. None is nearer than
-// 0.0028 units of its last digit to where it would round to another.
+// table 7.1, erf x; table 7.3, x exp(x^2) erfc x; table 26.2, -log10 Q(x). They were set
+// down from memory and have not been held beside a copy of the book; each agrees with mpmath at 60
+// digits. None is nearer than 0.0028 units of its last digit to where it would round to another.
 mod text;
 
 use arithmetic::ln::ln;

@@ -1,10 +1,11 @@
 // The Black volatility of a quote, and of a normalised price, by quantiles of the inverse Gaussian distribution,
-// whose searches count their evaluations.
+// whose searches count their evaluations; and the price of a volatility.
 pub mod bracket;
 pub mod counted;
 pub mod curves;
 pub mod initial_guess;
 pub mod newton;
+pub mod price;
 pub mod quantile;
 pub mod quote;
 pub mod survival;

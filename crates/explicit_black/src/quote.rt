@@ -208,7 +208,7 @@ pub fn first_refusal(side: u32, price: f64, forward: f64, strike: f64, time: f64
     if time < 0.0 { 4 } else { 0 }
 }
 
-fn intrinsic_value(side: u32, forward: f64, strike: f64) -> f64
+pub(crate) fn intrinsic_value(side: u32, forward: f64, strike: f64) -> f64
     ensures { λ r. ⌜ r ≡ intrinsicValue side forward strike ⌝ }
 {
     if side == 0 {

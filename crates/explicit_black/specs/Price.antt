@@ -1,0 +1,41 @@
+-- The price of a volatility (REQUIREMENTS 14.1): x is `negative_abs_log_moneyness`, s the volatility times √time. Each operation is rounded once, from
+-- left to right. Definitions only.
+use Prim.Native.Nat.{ℕ}
+use mathlib.Core.Bool.{cond}
+use lib.Dec.{eqb}
+use lib.Ieee.{Float, lt, eq}
+use Rattle.arithmetic.specs.Operations.{_⊕_, _⊗_, _⊘_, plusZero, two}
+use Rattle.arithmetic.specs.Sqrt.{sqrt}
+use Rattle.bs_option_price.specs.BsOptionPrice.{normalisedBlack, negativeAbsLogMoneyness}
+use Rattle.explicit_black.specs.Quote.{firstRefusal, intrinsicValue}
+
+-- what the price entry hands back: a price; or a refusal's number and count
+pub data PriceReply : Type 0 where
+  price : Float → PriceReply
+  refusal : ℕ → ℕ → PriceReply
+
+-- tests 1 to 4, with the volatility in the price's place, then test 11: the number of the first that applies, or 0
+unfoldable pub priceRefusal : ℕ → Float → Float → Float → Float → ℕ
+priceRefusal side volatility forward strike time =
+    let number = firstRefusal side volatility forward strike time in
+    cond (eqb number 0) (cond (lt volatility plusZero) 11 0) number
+
+-- √forward · √strike · normalised_black (x / 2, x / s, s / 2)
+unfoldable pub timeValue : Float → Float → Float → Float
+timeValue forward strike s =
+    let x = negativeAbsLogMoneyness forward strike in
+    sqrt forward ⊗ sqrt strike ⊗ normalisedBlack (x ⊘ two) (x ⊘ s) (s ⊘ two)
+
+-- the time value, and the intrinsic value added where that is above 0; where s is 0, the intrinsic value where that is above 0, or 0
+unfoldable pub priceOf : ℕ → Float → Float → Float → Float
+priceOf side forward strike s =
+    let intrinsic = intrinsicValue side forward strike in
+    cond (eq s plusZero)
+    (cond (lt plusZero intrinsic) intrinsic plusZero)
+    (cond (lt plusZero intrinsic) (timeValue forward strike s ⊕ intrinsic) (timeValue forward strike s))
+
+-- the price at s = volatility · √time, or the refusal, with count 0
+unfoldable pub blackPrice : ℕ → Float → Float → Float → Float → PriceReply
+blackPrice side volatility forward strike time =
+    let number = priceRefusal side volatility forward strike time in
+    cond (eqb number 0) (price (priceOf side forward strike (volatility ⊗ sqrt time))) (refusal number 0)

@@ -16,6 +16,7 @@ pub mod Extremes
 pub mod ScaledRatios
 pub mod Identities
 pub mod Bounds
+pub mod ScaledProducts
 -- The square root:
 pub mod WholeRoots
 pub mod SqrtValues

@@ -29,20 +29,24 @@ pub record Exactly (n : ℤ) (x y : Float) : Type 0 where
   pub fraction : num y * den x * fourDown n ≡ num x * den y * fourUp n
   pub signs : (num x ≡ 0) ⊎ (isSignMinus y ≡ isSignMinus x)
 
--- a price that is finite and not negative, minus zero included; a forward and a strike that are finite and at least 2 ^ -1022
-pub record FiguresInRange (price forward strike : Float) : Type 0 where
-  pub price-finite : T (finite price)
-  pub price-not-negative : T (le plusZero price)
+-- a forward and a strike that are finite and at least 2 ^ -1022
+pub record PairInRange (forward strike : Float) : Type 0 where
   pub forward-finite : T (finite forward)
   pub forward-normal : T (le minPositive forward)
   pub strike-finite : T (finite strike)
   pub strike-normal : T (le minPositive strike)
 
--- such figures, neither of forward and strike over 2 ^ 1022 times the other
-pub record ComparableFigures (price forward strike : Float) : Type 0 where
-  pub in-range : FiguresInRange price forward strike
+-- such a pair, neither of them over 2 ^ 1022 times the other
+pub record ComparablePair (forward strike : Float) : Type 0 where
+  pub in-range : PairInRange forward strike
   pub forward-not-over : NotOver forward strike
   pub strike-not-over : NotOver strike forward
+
+-- a price that is finite and not negative, minus zero included, with such a forward and strike
+pub record ComparableFigures (price forward strike : Float) : Type 0 where
+  pub price-finite : T (finite price)
+  pub price-not-negative : T (le plusZero price)
+  pub pair : ComparablePair forward strike
 
 -- two times that are both zero, or both finite and above zero
 abbrev pub ComparableTimes : Float → Float → Type 0

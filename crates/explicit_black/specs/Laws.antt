@@ -4,6 +4,8 @@ pub mod Counts
 pub mod Demand
 pub mod Kinds
 pub mod Powers
+pub mod Price
+pub mod PricePowers
 pub mod Quote
 pub mod Roots
 pub mod ScaledPrice

@@ -2,9 +2,11 @@
 -- left to right. Definitions only.
 use Prim.Native.Nat.{ℕ}
 use mathlib.Core.Bool.{cond}
-use lib.Dec.{eqb}
+use mathlib.Core.Logic.{_⊎_}
+use lib.Dec.{T, eqb}
 use lib.Ieee.{Float, lt, eq}
-use Rattle.arithmetic.specs.Operations.{_⊕_, _⊗_, _⊘_, plusZero, two}
+use lib.Ieee.Scale.{finite}
+use Rattle.arithmetic.specs.Operations.{_⊕_, _⊗_, _⊘_, plusZero, two, minPositive}
 use Rattle.arithmetic.specs.Sqrt.{sqrt}
 use Rattle.bs_option_price.specs.BsOptionPrice.{normalisedBlack, negativeAbsLogMoneyness}
 use Rattle.explicit_black.specs.Quote.{firstRefusal, intrinsicValue}
@@ -39,3 +41,9 @@ unfoldable pub blackPrice : ℕ → Float → Float → Float → Float → Pric
 blackPrice side volatility forward strike time =
     let number = priceRefusal side volatility forward strike time in
     cond (eqb number 0) (price (priceOf side forward strike (volatility ⊗ sqrt time))) (refusal number 0)
+
+-- ---- What the law of 4 ^ n asks of the two time values, and of the two prices: both are finite, and both are above 2 ^ -1022 or both are 0.
+pub record BothAboveOrZero (v v' : Float) : Type 0 where
+  pub first-finite : T (finite v)
+  pub second-finite : T (finite v')
+  pub above-or-zero : (T (lt minPositive v) × T (lt minPositive v')) ⊎ (T (eq v plusZero) × T (eq v' plusZero))

@@ -18,9 +18,9 @@ pub enum PriceReply {
 fn price_refusal(side: u32, volatility: f64, forward: f64, strike: f64, time: f64) -> u32
     ensures { λ r. ⌜ r ≡ priceRefusal side volatility forward strike time ⌝ }
 {
-    let number = first_refusal(side, volatility, forward, strike, time);
-    if number != 0 {
-        return number;
+    let first = first_refusal(side, volatility, forward, strike, time);
+    if first != 0 {
+        return first;
     }
     if volatility < 0.0 { 11 } else { 0 }
 }

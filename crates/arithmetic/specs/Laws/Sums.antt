@@ -99,7 +99,7 @@ unfolding add
 add-is f = both-finite _ (λ s m e t n d. refl)
 
 -- ---- sum and difference of x and y, values of the format, and of x' and y', which are 2 ^ k times each and need not be
-add-times : (f : Format) (k : ℕ) (x y x' y' : Float) → T (fits f x) → T (fits f y) → Times k x x' → Times k y y' → T (finite (add f x' y'))
+pub add-times : (f : Format) (k : ℕ) (x y x' y' : Float) → T (fits f x) → T (fits f y) → Times k x x' → Times k y y' → T (finite (add f x' y'))
     → Times k (add f x y) (add f x' y')
 add-times f k x y x' y' F G h g t =
     let big : add f x' y' ≡ sum f (isSignMinus x) (num x' * den y') (isSignMinus y) (num y' * den x') (den x' * den y') =

@@ -28,11 +28,11 @@ use Rattle.bs_option_price.specs.BsOptionPrice.{negativeAbsLogMoneyness}
 use Rattle.bs_option_price.specs.Laws.Moneyness.{BoundedRatio, log-times, log-swap}
 use Rattle.explicit_black.specs.Counted.{Counted, atOnce}
 use Rattle.explicit_black.specs.Quote.{Outcome, refused, firstRefusal, fromPrice, fromQuote, impliedBlackVolatilityInput}
-use Rattle.explicit_black.specs.Demand.{Exactly, ComparableFigures, ComparableTimes, compared}
+use Rattle.explicit_black.specs.Demand.{Exactly, ComparablePair, ComparableFigures, ComparableTimes, compared}
 use Rattle.explicit_black.specs.Laws.ScaledPrice.{Plain, from-price-times}
 use Rattle.explicit_black.specs.Laws.Quote.{compared-input}
 use Rattle.explicit_black.specs.Laws.ZeroPrice.{zeroOf, plusZero-is, refuted, zeros, zero-from-price}
-use Rattle.explicit_black.specs.Laws.Powers.{comparable, four-times}
+use Rattle.explicit_black.specs.Laws.Powers.{comparable-pair, comparable, four-times}
 
 -- ---- times: both zero, or both finite and above zero
 
@@ -87,7 +87,7 @@ times-tested t t' (inl (a, b)) = (true, zero-time t a, zero-time t' b)
 times-tested t t' (inr (a, b, c, d)) = (false, positive-time t a b, positive-time t' c d)
 
 -- ---- figures that pass tests 2, 3 and 4
-above-plusZero : (x : Float) → PositiveNormal x → lt plusZero x ≡ true
+pub above-plusZero : (x : Float) → PositiveNormal x → lt plusZero x ≡ true
 above-plusZero x o =
     let a = 0 * den x in
     let b = num x * 1 in
@@ -180,6 +180,13 @@ normal-times : (k : ℕ) (x y : Float) → PositiveNormal x → Related k x y �
 normal-times k x y o (related-times h) = h
 normal-times k x y o (vanish e g) = absurd (lt-irrefl 0 (subst (λ (z : ℕ). 0 < z) e (num-above x o)))
 
+-- `Exactly` of normal values above zero as `Times`: upward from x to y, and downward from y to x
+pub exactly-up : (n : ℕ) (x y : Float) → PositiveNormal x → Exactly (pos n) x y → Times (n + n) x y
+exactly-up n x y o h = normal-times (n + n) x y o (upward n x y h)
+
+pub exactly-down : (n : ℕ) (x y : Float) → PositiveNormal y → Exactly (negsuc n) x y → Times (suc n + suc n) y x
+exactly-down n x y o h = normal-times (suc n + suc n) y x o (downward n x y h)
+
 -- ---- prices that are zero, of either sign, and prices with the sign clear
 
 -- the figures of a quote within the limits of demand 3, values of binary64
@@ -210,7 +217,7 @@ zero-after-tests call p f k t F b e =
 zero-plain : Plain (zeroOf false)
 zero-plain = record { held = (unfold fits in tt); bounded = tt; clear = refl }
 
-difference-finite : (b c : Float) → PositiveNormal b → PositiveNormal c → T (finite (b ⊖ c))
+pub difference-finite : (b c : Float) → PositiveNormal b → PositiveNormal c → T (finite (b ⊖ c))
 difference-finite b c o q = sub-finite binary64 b c (o .held) (q .held) (o .bounded) (q .bounded) (plus b o) (plus c q)
 
 -- ---- what follows test 4, for figures scaled by 2 ^ (n + n)
@@ -304,20 +311,23 @@ inputAtBits side p f k t = compared (impliedBlackVolatilityInput side (bits p) (
 input-at-bits-is : (side p f k t : ℕ) → inputAtBits side p f k t ≡ fromQuote side (bits p) (bits f) (bits k) (bits t)
 input-at-bits-is side p f k t = compared-input side (bits p) (bits f) (bits k) (bits t)
 
-comparable-values : (p f k : ℕ) → ComparableFigures (bits p) (bits f) (bits k) → ComparableValues (bits p) (bits f) (bits k)
-comparable-values p f k h =
+pub comparable-ratio : (f k : ℕ) → ComparablePair (bits f) (bits k) → BoundedRatio (bits f) (bits k)
+comparable-ratio f k h =
     let r = h .in-range in
     record {
-      held = ofBits-fits binary64 p;
-      bounded = r .price-finite;
-      not-negative = r .price-not-negative;
-      pair = record {
-        forward = record { held = ofBits-fits binary64 f; bounded = r .forward-finite; large = r .forward-normal };
-        strike = record { held = ofBits-fits binary64 k; bounded = r .strike-finite; large = r .strike-normal };
-        not-over = h .forward-not-over;
-        not-under = h .strike-not-over;
-      };
+      forward = record { held = ofBits-fits binary64 f; bounded = r .forward-finite; large = r .forward-normal };
+      strike = record { held = ofBits-fits binary64 k; bounded = r .strike-finite; large = r .strike-normal };
+      not-over = h .forward-not-over;
+      not-under = h .strike-not-over;
     }
+
+comparable-values : (p f k : ℕ) → ComparableFigures (bits p) (bits f) (bits k) → ComparableValues (bits p) (bits f) (bits k)
+comparable-values p f k h = record {
+  held = ofBits-fits binary64 p;
+  bounded = h .price-finite;
+  not-negative = h .price-not-negative;
+  pair = comparable-ratio f k (h .pair);
+}
 
 module _ (n : ℤ) (p f k t p' f' k' t' : ℕ) (h : ComparableFigures (bits p) (bits f) (bits k)) (h' : ComparableFigures (bits p') (bits f') (bits k'))
     (w : ComparableTimes (bits t) (bits t')) (e : Exactly n (bits p) (bits p')) where
@@ -368,11 +378,11 @@ timeOne = 0x3FF0_0000_0000_0000
 
 comparable-call : ComparableFigures (bits callPrice) (bits callForward) (bits callStrike)
 unfolding ofBits le
-comparable-call = comparable _ _ _ tt tt tt tt tt tt (lit≤ tt) (lit≤ tt)
+comparable-call = comparable _ _ _ tt tt (comparable-pair _ _ tt tt tt tt (lit≤ tt) (lit≤ tt))
 
 comparable-put : ComparableFigures (bits putPrice) (bits putForward) (bits putStrike)
 unfolding ofBits le
-comparable-put = comparable _ _ _ tt tt tt tt tt tt (lit≤ tt) (lit≤ tt)
+comparable-put = comparable _ _ _ tt tt (comparable-pair _ _ tt tt tt tt (lit≤ tt) (lit≤ tt))
 
 pub call-and-put-agree : inputAtBits 1 putPrice putForward putStrike timeOne ≡ inputAtBits 0 callPrice callForward callStrike timeOne
 unfolding ofBits lt

@@ -28,7 +28,7 @@ use Rattle.explicit_black.specs.Quantile.{inverseGaussianQuantile}
 use Rattle.explicit_black.specs.Survival.{inverseGaussianQuantileFromSurvival}
 use Rattle.explicit_black.specs.Quote.{Outcome, total, refused, impliedNormalisedVolatilityAtm, atTheMoney, totalAt, fromCallPrice}
 use Rattle.explicit_black.specs.Quote.{fromNormalisedPrice, firstRefusal, fromTimeValue, fromPrice, fromQuote, impliedBlackVolatilityInput}
-use Rattle.explicit_black.specs.Demand.{fourUp, fourDown, Exactly, FiguresInRange, ComparableFigures, compared}
+use Rattle.explicit_black.specs.Demand.{fourUp, fourDown, Exactly, PairInRange, ComparablePair, ComparableFigures, compared}
 use Rattle.explicit_black.specs.Laws.Quote.{compared-input}
 
 -- what is compared of a call at time 1, by its price, forward and strike
@@ -89,22 +89,16 @@ pub record Doubled (p f k p' f' k' : Float) (r r' : Outcome) : Type 0 where
   pub differ : call p' f' k' ≡ call p f k → ⊥
 
 -- the terms of demand 3, each with its proof
-figures-in-range : (p f k : Float) → T (finite p) → T (le plusZero p) → T (finite f) → T (le minPositive f) → T (finite k) → T (le minPositive k)
-    → FiguresInRange p f k
-figures-in-range p f k a b c d e g = record {
-  price-finite = a;
-  price-not-negative = b;
-  forward-finite = c;
-  forward-normal = d;
-  strike-finite = e;
-  strike-normal = g;
-}
+pair-in-range : (f k : Float) → T (finite f) → T (le minPositive f) → T (finite k) → T (le minPositive k) → PairInRange f k
+pair-in-range f k a b c d = record { forward-finite = a; forward-normal = b; strike-finite = c; strike-normal = d }
 
-pub comparable : (p f k : Float) → T (finite p) → T (le plusZero p) → T (finite f) → T (le minPositive f) → T (finite k) → T (le minPositive k)
-    → NotOver f k → NotOver k f → ComparableFigures p f k
-comparable p f k a b c d e g h i = record { in-range = figures-in-range p f k a b c d e g; forward-not-over = h; strike-not-over = i }
+pub comparable-pair : (f k : Float) → T (finite f) → T (le minPositive f) → T (finite k) → T (le minPositive k) → NotOver f k → NotOver k f → ComparablePair f k
+comparable-pair f k a b c d h i = record { in-range = pair-in-range f k a b c d; forward-not-over = h; strike-not-over = i }
 
-times-two : (x y : Float) → T (finite x) → T (finite y) → isSignMinus y ≡ isSignMinus x → num y * den x ≡ num x * 2 * den y → Times 1 x y
+pub comparable : (p f k : Float) → T (finite p) → T (le plusZero p) → ComparablePair f k → ComparableFigures p f k
+comparable p f k a b h = record { price-finite = a; price-not-negative = b; pair = h }
+
+pub times-two : (x y : Float) → T (finite x) → T (finite y) → isSignMinus y ≡ isSignMinus x → num y * den x ≡ num x * 2 * den y → Times 1 x y
 times-two x y a b c d = record { finite-l = a; finite-r = b; sign = c; value = d }
 
 -- calls with different outcomes are not answered alike
@@ -126,8 +120,8 @@ two-two = refl
 pub totals-differ : Doubled half one one one two two (total halfOfOne) (total halfOfTwo)
 unfolding ofBits le
 totals-differ = record {
-  first-comparable = comparable half one one tt tt tt tt tt tt (lit≤ tt) (lit≤ tt);
-  second-comparable = comparable one two two tt tt tt tt tt tt (lit≤ tt) (lit≤ tt);
+  first-comparable = comparable half one one tt tt (comparable-pair one one tt tt tt tt (lit≤ tt) (lit≤ tt));
+  second-comparable = comparable one two two tt tt (comparable-pair two two tt tt tt tt (lit≤ tt) (lit≤ tt));
   price-doubled = times-two half one tt tt refl refl;
   forward-doubled = times-two one two tt tt refl refl;
   strike-doubled = times-two one two tt tt refl refl;
@@ -151,8 +145,8 @@ at-twelve = refl
 pub refusals-differ : Doubled belowSix six nineteen belowTwelve twelve thirtyEight (total infinity) (refused 8)
 unfolding ofBits le
 refusals-differ = record {
-  first-comparable = comparable belowSix six nineteen tt tt tt tt tt tt (lit≤ tt) (lit≤ tt);
-  second-comparable = comparable belowTwelve twelve thirtyEight tt tt tt tt tt tt (lit≤ tt) (lit≤ tt);
+  first-comparable = comparable belowSix six nineteen tt tt (comparable-pair six nineteen tt tt tt tt (lit≤ tt) (lit≤ tt));
+  second-comparable = comparable belowTwelve twelve thirtyEight tt tt (comparable-pair twelve thirtyEight tt tt tt tt (lit≤ tt) (lit≤ tt));
   price-doubled = times-two belowSix belowTwelve tt tt refl refl;
   forward-doubled = times-two six twelve tt tt refl refl;
   strike-doubled = times-two nineteen thirtyEight tt tt refl refl;
@@ -165,7 +159,9 @@ refusals-differ = record {
 
 -- the terms of demand 3, but that the strike is over 2 ^ 1022 times the forward
 pub record RatioOver (price forward strike : Float) : Type 0 where
-  pub in-range : FiguresInRange price forward strike
+  pub price-finite : T (finite price)
+  pub price-not-negative : T (le plusZero price)
+  pub in-range : PairInRange forward strike
   pub forward-not-over : NotOver forward strike
   pub strike-over : NotOver strike forward → ⊥
 
@@ -233,8 +229,8 @@ far-refused : call fourFarPrice fourFarForward fourFarStrike ≡ atOnce (refused
 unfolding call ofBits
 far-refused = refl
 
-ratio-over : (p f k : Float) → FiguresInRange p f k → NotOver f k → (NotOver k f → ⊥) → RatioOver p f k
-ratio-over p f k r h i = record { in-range = r; forward-not-over = h; strike-over = i }
+ratio-over : (p f k : Float) → T (finite p) → T (le plusZero p) → PairInRange f k → NotOver f k → (NotOver k f → ⊥) → RatioOver p f k
+ratio-over p f k a b r h i = record { price-finite = a; price-not-negative = b; in-range = r; forward-not-over = h; strike-over = i }
 
 pub four-times : (x y : Float) → T (finite x) → T (finite y) → num y * den x * 1 ≡ num x * den y * 4 → isSignMinus y ≡ isSignMinus x
     → Exactly (pos 1) x y
@@ -243,8 +239,8 @@ four-times x y a b e s = record { finite-x = a; finite-y = b; fraction = e; sign
 pub ratio-limited : BeyondRatio farPrice farForward farStrike fourFarPrice fourFarForward fourFarStrike
 unfolding ofBits le isEight
 ratio-limited = record {
-  first-over = ratio-over farPrice farForward farStrike (figures-in-range _ _ _ tt tt tt tt tt tt) (lit≤ tt) (λ h. le→leb _ _ h);
-  second-over = ratio-over fourFarPrice fourFarForward fourFarStrike (figures-in-range _ _ _ tt tt tt tt tt tt) (lit≤ tt) (λ h. le→leb _ _ h);
+  first-over = ratio-over farPrice farForward farStrike tt tt (pair-in-range _ _ tt tt tt tt) (lit≤ tt) (λ h. le→leb _ _ h);
+  second-over = ratio-over fourFarPrice fourFarForward fourFarStrike tt tt (pair-in-range _ _ tt tt tt tt) (lit≤ tt) (λ h. le→leb _ _ h);
   price-fourfold = four-times farPrice fourFarPrice tt tt refl refl;
   forward-fourfold = four-times farForward fourFarForward tt tt refl refl;
   strike-fourfold = four-times farStrike fourFarStrike tt tt refl refl;

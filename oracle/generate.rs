@@ -1,11 +1,14 @@
-//! Writes inputs to standard output: records for `vectors`, or a sheet.
+//! Writes inputs to standard output: records for `vectors` or `prices`, or a sheet.
 
 #[allow(dead_code)]
 mod inputs;
 #[allow(dead_code)]
+mod price_inputs;
+#[allow(dead_code)]
 mod standin;
 
 use inputs::{Inputs, KINDS, Quote, Quotes, kept};
+use price_inputs::{Keyed, PRICE_KINDS, Prices, kept_prices};
 use std::io::{self, BufWriter, Write};
 use std::process::exit;
 
@@ -15,20 +18,31 @@ fn usage() -> ! {
        oracle/generate sample FUNCTION COUNT SEED    the same, half edges spread evenly, half drawn
        oracle/generate sheet KIND COUNT SEED         a sheet of quotes; KIND: {} or mixed
        oracle/generate kept SEED                     the sheet that the repository keeps: 1,000 quotes, the requirements' first
+       oracle/generate prices KIND COUNT SEED        records of `prices`; KIND: {} or mixed
+       oracle/generate kept-prices SEED              the records that the repository keeps: 1,500, and a last one without its end
 Exit status: 0 written; 1 it could not be written or built; 2 bad usage; 4 rustc is not there.",
-        KINDS.join(", ")
+        KINDS.join(", "),
+        PRICE_KINDS.join(", ")
     );
     exit(2)
+}
+
+/// A side and four figures in XDR.
+fn put_figures(side: u32, figures: [f64; 4], out: &mut impl Write) -> io::Result<()> {
+    out.write_all(&side.to_be_bytes())?;
+    figures.iter().try_for_each(|figure| out.write_all(&figure.to_bits().to_be_bytes()))
 }
 
 /// A sheet in XDR.
 fn put_sheet(quotes: &[Quote], out: &mut impl Write) -> io::Result<()> {
     out.write_all(&(quotes.len() as u32).to_be_bytes())?;
-    for q in quotes {
-        out.write_all(&q.side.to_be_bytes())?;
-        for figure in [q.price, q.forward, q.strike, q.time] {
-            out.write_all(&figure.to_bits().to_be_bytes())?;
-        }
+    quotes.iter().try_for_each(|q| put_figures(q.side, [q.price, q.forward, q.strike, q.time], out))
+}
+
+/// Records of `prices`.
+fn put_prices(records: impl Iterator<Item = Keyed>, out: &mut impl Write) -> io::Result<()> {
+    for k in records {
+        put_figures(k.side, [k.volatility, k.forward, k.strike, k.time], out)?;
     }
     Ok(())
 }
@@ -42,6 +56,17 @@ fn drawn(kind: &str, count: usize, seed: u64) -> Vec<Quote> {
     }
     let n = quotes.len();
     (0..count).map(|i| quotes[i % n].next()).collect()
+}
+
+/// Records of one kind of price, or of all in turn.
+fn drawn_prices(kind: &str, count: usize, seed: u64) -> impl Iterator<Item = Keyed> {
+    let kinds = (0..PRICE_KINDS.len()).filter(|&i| kind == "mixed" || PRICE_KINDS[i] == kind);
+    let mut prices: Vec<Prices> = kinds.map(|i| Prices::new(i, seed)).collect();
+    if prices.is_empty() {
+        usage();
+    }
+    let n = prices.len();
+    (0..count).map(move |i| prices[i % n].next())
 }
 
 /// Records for `vectors`.
@@ -68,6 +93,13 @@ fn main() -> io::Result<()> {
     match args.iter().map(String::as_str).collect::<Vec<_>>()[..] {
         ["kept", seed] => put_sheet(&kept(number(seed)), &mut out)?,
         ["sheet", kind, count, seed] => put_sheet(&drawn(kind, number(count) as usize, number(seed)), &mut out)?,
+        ["prices", kind, count, seed] => {
+            put_prices(drawn_prices(kind, number(count) as usize, number(seed)), &mut out)?
+        }
+        ["kept-prices", seed] => {
+            put_prices(kept_prices(number(seed)).into_iter(), &mut out)?;
+            out.write_all(&[0; 35])?
+        }
         ["vectors", name, count, seed] => {
             let mut inputs = Inputs::new(function(name), number(seed));
             put_records(function(name), (0..number(count)).map(|_| inputs.next()), &mut out)?

@@ -91,7 +91,7 @@ pub fn step(x: f64, n: i64) -> f64 {
     if at < 0 || (at == 0 && x.is_sign_negative()) { -size } else { size }
 }
 
-const NANS: [u64; 8] = [
+pub const NANS: [u64; 8] = [
     0x7FF8_0000_0000_0000,
     0xFFF8_0000_0000_0000,
     0x7FF0_0000_0000_0001,
@@ -174,16 +174,16 @@ fn few_edges() -> Vec<f64> {
 
 // ---- cuts: where a function's text has a comparison
 
-const SQRT_2: f64 = std::f64::consts::SQRT_2;
+pub const SQRT_2: f64 = std::f64::consts::SQRT_2;
 const LN_2: f64 = std::f64::consts::LN_2;
 const U_MAX: f64 = 0.341_344_746_068_542_9;
-const TAU: f64 = 2.0 * f64::from_bits(0x3FBA_E89F_995A_D3AE);
-const ETA: f64 = -13.0;
-const XNEG: f64 = -26.628_735_713_751_4;
-const XBIG: f64 = 26.543;
+pub const TAU: f64 = 2.0 * f64::from_bits(0x3FBA_E89F_995A_D3AE);
+pub const ETA: f64 = -13.0;
+pub const XNEG: f64 = -26.628_735_713_751_4;
+pub const XBIG: f64 = 26.543;
 const CODY: [f64; 3] = [0.46875, 4.0, XBIG];
 const LOW_ROOTS: [f64; 4] = [2.05, 3.41, 6.7, 12.9];
-const THRESHOLDS: [f64; 12] =
+pub const THRESHOLDS: [f64; 12] =
     [12.347, 12.958, 13.729, 14.718, 16.016, 17.769, 20.221, 23.816, 29.419, 38.93, 57.171, 99.347];
 
 const EXP_CUTS: [u64; 4] = [0x4086_2E42_FEFA_39EF, 0xC087_4910_D52D_3051, 0xC086_232B_DD7A_BCD2, 0x4086_2B7D_369A_5AA7];
@@ -438,7 +438,7 @@ fn normalised_black(rng: &mut Rng) -> [f64; 3] {
 }
 
 /// A forward and a strike, mostly above 0.
-fn forward_and_strike(rng: &mut Rng) -> [f64; 2] {
+pub fn forward_and_strike(rng: &mut Rng) -> [f64; 2] {
     let f = match rng.below(4) {
         0 => f64::from_bits(1 + rng.below(16)),
         1 => f64::from_bits(rng.bits() >> (11 + rng.below(52))),
@@ -831,7 +831,7 @@ fn bits(rng: &mut Rng) -> Quote {
 }
 
 /// x times 4^n where that is exact and, for a forward or strike, at least 2^-1022.
-fn scaled_exactly(x: f64, n: i64) -> Option<f64> {
+pub fn scaled_exactly(x: f64, n: i64) -> Option<f64> {
     let y = times_power(x, 2 * n);
     (y.is_finite() && times_power(y, -2 * n).to_bits() == x.to_bits() && (x == 0.0) == (y == 0.0)).then_some(y)
 }

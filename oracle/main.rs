@@ -1,4 +1,4 @@
-//! `oracle vectors` and `oracle sheet`: the interfaces of the proved programs, answered by the Rust source.
+//! `oracle vectors`, `oracle sheet` and `oracle prices`: the interfaces of the proved programs, answered by the Rust source.
 
 use std::io::{self, BufRead, BufReader, BufWriter, Read, Write};
 use std::process::exit;
@@ -21,6 +21,22 @@ fn vectors() -> io::Result<()> {
     output.flush()
 }
 
+fn prices() -> io::Result<()> {
+    let mut input = BufReader::with_capacity(1 << 20, io::stdin().lock());
+    let mut output = BufWriter::with_capacity(1 << 20, io::stdout().lock());
+    let mut record = [0u8; 36];
+    for number in 1u64.. {
+        if input.read_exact(&mut record).is_err() {
+            break;
+        }
+        let side = u32::from_be_bytes(record[0..4].try_into().unwrap());
+        let double = |at: usize| f64::from_bits(u64::from_be_bytes(record[at..at + 8].try_into().unwrap()));
+        let outcome = oracle::price::price(side, double(4), double(12), double(20), double(28));
+        writeln!(output, "{number} {}", outcome.line())?;
+    }
+    output.flush()
+}
+
 fn sheet() -> io::Result<()> {
     let mut bytes = Vec::new();
     // One byte more than the longest sheet is enough to refuse.
@@ -32,8 +48,9 @@ fn main() -> io::Result<()> {
     match std::env::args().nth(1).as_deref() {
         Some("vectors") => vectors(),
         Some("sheet") => sheet(),
+        Some("prices") => prices(),
         _ => {
-            eprintln!("usage: oracle vectors | sheet   (standard input to standard output)");
+            eprintln!("usage: oracle vectors | sheet | prices   (standard input to standard output)");
             exit(2)
         }
     }

@@ -25,8 +25,8 @@ impl Outcome {
     }
 }
 
-/// Tests 1 to 4, which the source does not make.
-fn first_refusal(side: u32, price: f64, forward: f64, strike: f64, time: f64) -> Option<u32> {
+/// Tests 1 to 4, which the source does not make. The price entry hands its volatility in the price's place.
+pub fn first_refusal(side: u32, price: f64, forward: f64, strike: f64, time: f64) -> Option<u32> {
     if side > 1 {
         return Some(1);
     }

@@ -1,10 +1,12 @@
 //! Runs our code and the oracle on the same inputs in one process and counts the differences.
 
 mod ours;
+mod prices;
 
 use oracle::evaluations::counted;
 use oracle::functions::NAMES;
 use oracle::inputs::{self, Inputs, KINDS, Quote, Quotes, Rng};
+use oracle::price_inputs::PRICE_KINDS;
 use oracle::quote::Outcome;
 use oracle::{DefaultSpecialFn, explicit_black};
 use std::cell::Cell;
@@ -319,9 +321,13 @@ fn usage() -> ! {
         "usage: harness FUNCTION COUNT SEED        a function of vectors (1 to 21), a search (22, 23), or `all`
        harness quotes KIND COUNT SEED     COUNT on the requirements' domain; KIND: {CORNERS}, {} or all
        harness pairs COUNT SEED           scaled and exchanged pairs against each other
+       harness prices KIND COUNT SEED     COUNT records that get a price; KIND: {CORNERS}, {} or all
+       harness law COUNT SEED             prices of COUNT pairs within the hypotheses of the law of 4^n against each other
+       harness counterexamples            pairs outside its hypotheses that break it
        harness standins COUNT SEED        the requirements' exp, ln, ln_1p beside the platform's; nothing is asked of them
-Exit status: 0 no difference, 1 some, 2 bad usage.",
-        KINDS.join(", ")
+Exit status: 0 no difference, and every counterexample breaks the law; 1 some, or not; 2 bad usage.",
+        KINDS.join(", "),
+        PRICE_KINDS.join(", ")
     );
     exit(2)
 }
@@ -337,6 +343,11 @@ fn main() {
             quotes(kind, number(&args[2]), number(&args[3])).0
         }
         ["pairs", _, _] => pairs(number(&args[1]), number(&args[2])),
+        ["prices", kind, _, _] if ["all", CORNERS].contains(&kind) || PRICE_KINDS.contains(&kind) => {
+            prices::prices(kind, number(&args[2]), number(&args[3]))
+        }
+        ["law", _, _] => prices::law(number(&args[1]), number(&args[2])),
+        ["counterexamples"] => prices::counterexamples(),
         ["standins", _, _] => {
             standins(number(&args[1]), number(&args[2]));
             0

@@ -1,5 +1,6 @@
-// Our quote entries as replies.
+// Our entries as replies.
 use crate::Reply;
+use ours::explicit_black::price::{PriceReply, black_price};
 use ours::explicit_black::quote as entries;
 
 pub fn normalised(log_moneyness: f64, price: f64) -> Reply {
@@ -8,6 +9,13 @@ pub fn normalised(log_moneyness: f64, price: f64) -> Reply {
 
 pub fn quote(side: u32, price: f64, forward: f64, strike: f64, time: f64) -> Reply {
     reply(entries::implied_black_volatility_input(side, price, forward, strike, time))
+}
+
+pub fn price(side: u32, volatility: f64, forward: f64, strike: f64, time: f64) -> Reply {
+    match black_price(side, volatility, forward, strike, time) {
+        PriceReply::Price(price) => Reply::value(price),
+        PriceReply::Refusal { number, count } => Reply::Refusal { number, count },
+    }
 }
 
 fn reply(outcome: entries::Reply) -> Reply {

@@ -1,5 +1,5 @@
-/* The Black volatility of a quote, sheets of quotes, and the functions that these are computed with: the static library of the crate `exports`,
-   for x86-64 Linux. docs/REQUIREMENTS.md says what each call computes; section numbers below are its.
+/* The Black volatility of a quote, the price of a volatility, sheets of quotes, and the functions that these are computed with: the static library
+   of the crate `exports`, for x86-64 Linux. docs/REQUIREMENTS.md says what each call computes; section numbers below are its.
 
    Every function takes any bits and ends. It keeps no state, so that threads may call it at once, uses no heap, and calls nothing of its
    caller's.
@@ -70,10 +70,18 @@ double quoter_inverse_gaussian_survival(double x, double mu);
      8  the normalised price is above its bound, exp(-|log-moneyness| / 2)
      9  no volatility was found
     10  of a sheet: under 4 bytes, more than 1,000 quotes, or not 4 + 36 times their number of bytes
+    11  to quoter_price alone: volatility is below 0
    Refusals other than 9 have 0 evaluations. quoter_normalised returns 0, 2, 7, 8 or 9, and answers as at time 1. */
 uint32_t quoter_quote(uint32_t side, double price, double forward, double strike, double time,
                       double *total, double *volatility, uint64_t *count);
 uint32_t quoter_normalised(double log_moneyness, double price, double *total, double *volatility, uint64_t *count);
+
+/* The price of a volatility (section 14.1).
+   Returns 0 for a price: it is written. Where volatility times the root of time is 0, it is the intrinsic value, or 0 where that is below 0.
+   Where it is NaN, only that is promised; none has been met.
+   Otherwise returns the number of a refusal: nothing is written. Of the refusals above 1 to 4 come first, 2 for the volatility too, and then 11:
+   minus zero is not below 0. */
+uint32_t quoter_price(uint32_t side, double volatility, double forward, double strike, double time, double *price);
 
 /* The number of quotes in a sheet (section 11), whose bytes are in XDR (RFC 4506), the highest byte first: the number of its quotes in 4 bytes,
    then 36 bytes a quote: side in 4, price, forward, strike and time in 8 each.

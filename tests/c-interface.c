@@ -1,9 +1,10 @@
 /* Calls every function of include/quoter.h.
 
-   usage: c-interface             values known from docs/REQUIREMENTS.md: refusals, the sample sheet, keystrokes
+   usage: c-interface             values known from docs/REQUIREMENTS.md: refusals, the sample sheet, keystrokes, prices
           c-interface vectors     the interface of `vectors` but for signum, max and min
           c-interface lines       the interface of `sheet`, by quoter_sheet_line
           c-interface quotes      the same, by quoter_sheet_size and quoter_sheet_quote
+          c-interface prices      the interface of `prices`
 
    Exit status: 0 all well, 1 a known value differs, 2 bad usage. */
 #include "quoter.h"
@@ -133,6 +134,56 @@ static void known_pair(void)
     check("call and put", call == 0 && put == 0 && agree && count[0] == count[1] && count[0] > 0);
 }
 
+/* A price. A refusal leaves its place as it was. */
+static void price(const char *what, uint32_t side, double volatility, double forward, double strike, double time, uint32_t number, double right)
+{
+    double found = UNTOUCHED;
+    uint32_t returned = quoter_price(side, volatility, forward, strike, time, &found);
+    check(what, returned == number && bits(found) == bits(number == 0 ? right : UNTOUCHED));
+}
+
+/* By the words of the requirements, and by exact arithmetic: at a total volatility of 100 the price at the money, 100 erf(50 / sqrt 2), is nearer to
+   100 than 10^-500. Of two refusals that apply, the first is given. */
+static void known_prices(void)
+{
+    price("call in the money, volatility 0", 0, 0.0, 120.0, 100.0, 1.0, 0, 20.0);
+    price("call out of the money, volatility 0", 0, 0.0, 100.0, 120.0, 1.0, 0, 0.0);
+    price("put in the money, volatility 0", 1, 0.0, 100.0, 120.0, 1.0, 0, 20.0);
+    price("put out of the money, volatility 0", 1, 0.0, 120.0, 100.0, 1.0, 0, 0.0);
+    price("at the money, volatility 0", 1, 0.0, 100.0, 100.0, 1.0, 0, 0.0);
+    price("call in the money, volatility minus zero", 0, -0.0, 120.0, 100.0, 1.0, 0, 20.0);
+    price("put out of the money, volatility minus zero", 1, -0.0, 120.0, 100.0, 1.0, 0, 0.0);
+    price("call in the money, time zero", 0, 0.2, 120.0, 100.0, 0.0, 0, 20.0);
+    price("put out of the money, time minus zero", 1, 0.2, 120.0, 100.0, -0.0, 0, 0.0);
+    price("call at the money, volatility 100", 0, 100.0, 100.0, 100.0, 1.0, 0, 100.0);
+    price("put at the money, volatility 100", 1, 100.0, 100.0, 100.0, 1.0, 0, 100.0);
+    price("price, refusal 1", 2, 0.2, 100.0, 100.0, 1.0, 1, 0.0);
+    price("price, 1 before 2", UINT32_MAX, NAN, 100.0, 100.0, 1.0, 1, 0.0);
+    price("price, refusal 2", 0, NAN, 100.0, 100.0, 1.0, 2, 0.0);
+    price("price, refusal 2, volatility infinite", 1, INFINITY, 100.0, 100.0, 1.0, 2, 0.0);
+    price("price, refusal 2, strike infinite", 0, 0.2, 100.0, INFINITY, 1.0, 2, 0.0);
+    price("price, 2 before 3", 0, -INFINITY, 0.0, 100.0, 1.0, 2, 0.0);
+    price("price, refusal 3", 0, 0.2, -0.0, 100.0, 1.0, 3, 0.0);
+    price("price, 3 before 4", 1, 0.2, 100.0, -1.0, -1.0, 3, 0.0);
+    price("price, refusal 4", 0, 0.2, 100.0, 100.0, -1.0, 4, 0.0);
+    price("price, 4 before 11", 0, -0.2, 100.0, 100.0, -1.0, 4, 0.0);
+    price("price, refusal 11", 0, -0.2, 100.0, 100.0, 1.0, 11, 0.0);
+    price("price, refusal 11, time zero", 1, -0x1p-1074, 120.0, 100.0, 0.0, 11, 0.0);
+}
+
+/* Prices that the words bind to each other: the same time value where forward and strike are exchanged, the intrinsic value added to it, and
+   4^n times the price for 4^n times forward and strike. */
+static void known_price_pairs(void)
+{
+    double put = UNTOUCHED;
+    check("put out of the money", quoter_price(1, 0.2, 120.0, 100.0, 1.0, &put) == 0 && put > 0.0 && put < 20.0);
+    price("forward and strike exchanged", 0, 0.2, 100.0, 120.0, 1.0, 0, put);
+    price("intrinsic added", 0, 0.2, 120.0, 100.0, 1.0, 0, put + 20.0);
+    price("4 times", 1, 0.2, 480.0, 400.0, 1.0, 0, 4.0 * put);
+    price("4^-500 times", 1, 0.2, 0x78p-1000, 0x64p-1000, 1.0, 0, 0x1p-1000 * put);
+    price("4^500 times, in the money", 0, 0.2, 0x78p1000, 0x64p1000, 1.0, 0, 0x1p1000 * (put + 20.0));
+}
+
 /* The header's test of the mode; its figures are the Rust's. */
 static int in_mode(void)
 {
@@ -255,6 +306,8 @@ static int known(void)
     known_values();
     known_replies();
     known_pair();
+    known_prices();
+    known_price_pairs();
     known_modes();
     known_sizes();
     known_quotes();
@@ -349,6 +402,25 @@ static int quotes(const uint8_t *sheet, uint64_t length)
     return 0;
 }
 
+/* Exit status 1 where a refusal writes a price. */
+static int prices(void)
+{
+    uint8_t record[36];
+    for (uint64_t number = 1; fread(record, 1, sizeof record, stdin) == sizeof record; number++) {
+        double found = UNTOUCHED;
+        uint32_t refused = quoter_price((uint32_t)word(record, 4), figure(record + 4), figure(record + 12), figure(record + 20),
+                                        figure(record + 28), &found);
+        printf("%" PRIu64 " ", number);
+        if (refused == 0)
+            printf("P %016" PRIx64 "\n", bits(isnan(found) ? (double)NAN : found));
+        else if (found == UNTOUCHED)
+            printf("R %" PRIu32 " 0\n", refused);
+        else
+            return 1;
+    }
+    return 0;
+}
+
 int main(int argc, char **argv)
 {
     static uint8_t sheet[36005];
@@ -361,6 +433,8 @@ int main(int argc, char **argv)
         return lines(sheet, fread(sheet, 1, sizeof sheet, stdin));
     if (strcmp(mode, "quotes") == 0)
         return quotes(sheet, fread(sheet, 1, sizeof sheet, stdin));
-    fputs("usage: c-interface [vectors | lines | quotes]\n", stderr);
+    if (strcmp(mode, "prices") == 0)
+        return prices();
+    fputs("usage: c-interface [vectors | lines | quotes | prices]\n", stderr);
     return 2;
 }

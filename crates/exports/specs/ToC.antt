@@ -5,6 +5,7 @@ use mathlib.Core.List.{List}
 use lib.Ieee.{Float}
 use lib.ListN.{length}
 use Rattle.explicit_black.specs.Quote.{Reply, answer, refusal}
+use Rattle.explicit_black.specs.Price.{PriceReply, price, refusal as refusalOfPrice}
 use Rattle.xdr_sheet.specs.Sheet.{Size, quotes, refused, SheetReply, replied, noQuote}
 use Rattle.xdr_sheet.specs.Text.{fitsInto, overlaid}
 use Rattle.xdr_sheet.specs.Printing.{Step}
@@ -26,6 +27,15 @@ noQuoteNumber = 0xFFFF_FFFF
 abbrev pub sheetReplyToC : Float → Float → ℕ → SheetReply → ReplyToC
 sheetReplyToC oldTotal oldVolatility oldCount (replied r) = replyToC oldTotal oldVolatility r
 sheetReplyToC oldTotal oldVolatility oldCount noQuote = handedReply noQuoteNumber oldTotal oldVolatility oldCount
+
+-- ---- a price: the number, and the price at its place
+pub data PriceToC : Type 0 where
+  handedPrice : ℕ → Float → PriceToC
+
+-- 0 with the price; or the refusal's number, and what stood there before
+abbrev pub priceToC : Float → PriceReply → PriceToC
+priceToC old (price p) = handedPrice 0 p
+priceToC old (refusalOfPrice number count) = handedPrice number old
 
 -- ---- a sheet's size: the number, and how many quotes it has at their place
 pub data SizeToC : Type 0 where

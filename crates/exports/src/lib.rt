@@ -2,6 +2,7 @@
 use explicit_black::curves::Allowance;
 use explicit_black::curves::Evaluation;
 use explicit_black::curves::SurvivalEvaluation;
+use explicit_black::price::PriceReply;
 use explicit_black::quote::Reply;
 use xdr_sheet::sheet::SheetReply;
 use xdr_sheet::sheet::Size;
@@ -19,10 +20,11 @@ ghost use Rattle.special_function.specs.NormalDistribution.{normPdf, normCdf, i
 ghost use Rattle.bs_option_price.specs.BsOptionPrice.{normalisedBlack, negativeAbsLogMoneyness};
 ghost use Rattle.explicit_black.specs.Curves.{inverseGaussianCdf, inverseGaussianSurvival};
 ghost use Rattle.explicit_black.specs.Quote.{impliedBlackVolatilityNormalised, impliedBlackVolatilityInput};
+ghost use Rattle.explicit_black.specs.Price.{blackPrice};
 ghost use Rattle.explicit_black.specs.Replies.{viewReply};
 ghost use Rattle.xdr_sheet.specs.Sheet.{size, sheetReply};
 ghost use Rattle.xdr_sheet.specs.Printing.{step};
-ghost use Rattle.exports.specs.ToC.{handedReply, replyToC, sheetReplyToC, handedSize, sizeToC, handedLine, lineToC};
+ghost use Rattle.exports.specs.ToC.{handedReply, replyToC, sheetReplyToC, handedPrice, priceToC, handedSize, sizeToC, handedLine, lineToC};
 
 #[no_mangle]
 pub extern "C" fn quoter_sqrt(x: f64) -> f64
@@ -220,6 +222,28 @@ pub extern "C" fn quoter_normalised(
 {
     let reply = explicit_black::quote::implied_black_volatility_normalised(log_moneyness, price);
     hand(reply, total, volatility, count)
+}
+
+// The price of a volatility. 0: the price is written. Else the number of the refusal, whose count is 0.
+#[no_mangle]
+pub extern "C" fn quoter_price(
+    side: u32,
+    volatility: f64,
+    forward: f64,
+    strike: f64,
+    time: f64,
+    price: &mut f64,
+) -> u32
+    ensures { λ r. ⌜ handedPrice r (now (price .exit))
+        ≡ priceToC (now (price .entry)) (blackPrice side volatility forward strike time) ⌝ }
+{
+    match explicit_black::price::black_price(side, volatility, forward, strike, time) {
+        PriceReply::Price(p) => {
+            *price = p;
+            0
+        }
+        PriceReply::Refusal { number, count: _ } => number,
+    }
 }
 
 // How many quotes a sheet has. 0: their number is written. Else the number of the refusal.

@@ -1,19 +1,28 @@
--- The sheet of REQUIREMENTS 11.4, one of no quotes and one that is refused, with their text to the byte. Assumes nothing.
+-- The sheet of REQUIREMENTS 11.4, one of no quotes and one that is refused, with their text to the byte; records of prices with their lines.
+-- Assumes nothing.
 use mathlib.Core.Path.{_≡_, refl}
 use Prim.Native.Nat.{ℕ}
 use mathlib.Core.List.{List, [], _∷_, _++_}
 use lib.Ieee.{add, sub, mul, div, lt, le, eq, isNan, ofBits, toBits}
 use Rattle.arithmetic.specs.Sqrt.{sqrt}
 use Rattle.explicit_black.specs.Quote.{volatility, firstRefusal, fromTimeValue, fromPrice, fromQuote, impliedBlackVolatilityInput}
-use Rattle.xdr_sheet.specs.Text.{ascii}
+use Rattle.explicit_black.specs.Price.{priceRefusal, priceOf, blackPrice}
+use Rattle.xdr_sheet.specs.Text.{ascii, priceLine}
 use Rattle.xdr_sheet.specs.Sheet.{text}
+use Rattle.xdr_sheet.specs.PriceRecord.{priceReply}
 
--- the doubles of the sample
+-- doubles
 abbrev plusZero : List ℕ
 plusZero = 0x00 ∷ 0x00 ∷ 0x00 ∷ 0x00 ∷ 0x00 ∷ 0x00 ∷ 0x00 ∷ 0x00 ∷ []
 
 abbrev one : List ℕ
 one = 0x3F ∷ 0xF0 ∷ 0x00 ∷ 0x00 ∷ 0x00 ∷ 0x00 ∷ 0x00 ∷ 0x00 ∷ []
+
+abbrev minusOne : List ℕ
+minusOne = 0xBF ∷ 0xF0 ∷ 0x00 ∷ 0x00 ∷ 0x00 ∷ 0x00 ∷ 0x00 ∷ 0x00 ∷ []
+
+abbrev fifth : List ℕ
+fifth = 0x3F ∷ 0xC9 ∷ 0x99 ∷ 0x99 ∷ 0x99 ∷ 0x99 ∷ 0x99 ∷ 0x9A ∷ []
 
 abbrev five : List ℕ
 five = 0x40 ∷ 0x14 ∷ 0x00 ∷ 0x00 ∷ 0x00 ∷ 0x00 ∷ 0x00 ∷ 0x00 ∷ []
@@ -50,3 +59,15 @@ text-of-no-quotes = refl
 pub text-of-no-sheet : text (0 ∷ 0 ∷ 0 ∷ []) ≡ ascii "S 10\n"
 unfolding text
 text-of-no-sheet = refl
+
+-- ---- prices: side, volatility, forward, strike, time
+
+-- at volatility 0 the price is the intrinsic value, 120 - 100
+pub line-of-intrinsic : priceLine 1 (priceReply (word 0 ++ plusZero ++ hundredTwenty ++ hundred ++ one)) ≡ ascii "1 P 4034000000000000\n"
+unfolding priceLine priceReply blackPrice priceRefusal firstRefusal priceOf sqrt add sub mul div lt le eq isNan ofBits toBits
+line-of-intrinsic = refl
+
+-- the time is -1
+pub line-of-refusal : priceLine 20 (priceReply (word 0 ++ fifth ++ hundred ++ hundredTwenty ++ minusOne)) ≡ ascii "20 R 4 0\n"
+unfolding priceLine priceReply blackPrice priceRefusal firstRefusal lt le eq isNan ofBits
+line-of-refusal = refl

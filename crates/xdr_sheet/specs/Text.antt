@@ -1,4 +1,5 @@
--- Numbers and the lines of a sheet's answers as ASCII text (REQUIREMENTS 11.3), and a text at the start of a buffer. Definitions only.
+-- Numbers, the lines of a sheet's answers (REQUIREMENTS 11.3) and of prices (14.1) as ASCII text, and a text at the start of a buffer.
+-- Definitions only.
 use Prim.Native.Nat.{ℕ, zero, suc, _/_}
 use Prim.Native.Char.{code}
 use Prim.Native.String.{String, [] as none, _∷_ as _before_}
@@ -9,6 +10,7 @@ use lib.Ieee.{binary64, toBits}
 use lib.ListN.{length, drop}
 use Rattle.io.specs.Digits.{digits}
 use Rattle.explicit_black.specs.Quote.{Reply, answer, refusal}
+use Rattle.explicit_black.specs.Price.{PriceReply, price, refusal as refusalOfPrice}
 use Rattle.xdr_sheet.specs.declared.tally.Tally.{Tally}
 
 -- the bytes of a text in quotation marks
@@ -60,6 +62,17 @@ line number (refusal reason count) = decimal number ++ refusalFields reason coun
 abbrev pub letter : Reply → ℕ
 letter (answer total volatility count) = code "V"
 letter (refusal reason count) = code "R"
+
+-- after the number of a price's record: `P` and the pattern of the price
+unfoldable pub priceFields : ℕ → List ℕ
+unfolding hexadecimal
+priceFields p = ascii " P " ++ hexadecimal p ++ ascii "\n"
+
+-- the line of a price's record with its number; a refusal has the fields of a quote's
+unfoldable pub priceLine : ℕ → PriceReply → List ℕ
+unfolding decimal priceFields refusalFields toBits
+priceLine number (price p) = decimal number ++ priceFields (toBits binary64 p)
+priceLine number (refusalOfPrice reason count) = decimal number ++ refusalFields reason count
 
 -- the last line: `T`, answers, refusals
 unfoldable pub closing : Tally → List ℕ

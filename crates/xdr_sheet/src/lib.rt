@@ -1,4 +1,5 @@
-// A sheet of quotes in XDR, and the text of its answers.
+// A sheet of quotes in XDR, and the text of its answers; the record of a price in XDR, and its line.
+pub mod price_record;
 pub mod printing;
 pub mod sheet;
 pub mod tally;

@@ -21,13 +21,13 @@ const MAX_QUOTES: u32 = 1000;
 pub const MAX_BYTES: usize = COUNT_BYTES + QUOTE_BYTES * MAX_QUOTES as usize;
 
 // Where the figures of a quote start, past its side.
-const PRICE: usize = 4;
+pub(crate) const PRICE: usize = 4;
 
-const FORWARD: usize = 12;
+pub(crate) const FORWARD: usize = 12;
 
-const STRIKE: usize = 20;
+pub(crate) const STRIKE: usize = 20;
 
-const TIME: usize = 28;
+pub(crate) const TIME: usize = 28;
 
 // How many quotes a sheet has, or the number and count of the refusal that it is refused with.
 pub enum Size {

@@ -4,11 +4,12 @@ ghost use mathlib.Core.List.{_∷_, [], _++_};
 ghost use Prim.Native.Nat.{_+_, _≤_, _<_};
 ghost use lib.ListN.{length, take, drop};
 ghost use lib.Ieee.{binary64, toBits};
-ghost use Rattle.explicit_black.specs.Replies.{viewReply};
+ghost use Rattle.explicit_black.specs.Replies.{viewReply, viewPriceReply};
 ghost use Rattle.xdr_sheet.specs.Text.{lineBytes, decimalDigits, hexadecimalDigits};
-ghost use Rattle.xdr_sheet.specs.Text.{decimal, hexadecimal, answerFields, refusalFields, line, closing, refusedSheet};
+ghost use Rattle.xdr_sheet.specs.Text.{decimal, hexadecimal, answerFields, refusalFields, priceFields, line, priceLine, closing, refusedSheet};
 ghost use Rattle.xdr_sheet.specs.Internal.Lines.{written, Extended, bytesPlaced, bufferAfter};
 use crate::tally::Tally;
+use explicit_black::price::PriceReply;
 use explicit_black::quote::Reply;
 
 pub const LINE_BYTES: usize = 80;
@@ -42,7 +43,7 @@ impl Line {
     }
 
     // How many bytes the text has.
-    fn count(self) -> usize
+    pub fn count(self) -> usize
         ensures { λ r. ⌜ (r ≡ length (written self)) × (r ≤ lineBytes) ⌝ }
     {
         if self.length < LINE_BYTES {
@@ -121,9 +122,17 @@ impl Line {
             .decimal(count)
             .bytes(b"\n")
     }
+
+    // What follows the number of a record that has a price.
+    fn price(self, bits: u64) -> Line
+        requires { ⌜ self .length ≤ decimalDigits ⌝ }
+        ensures { λ r. ⌜ Extended self (priceFields bits) r ⌝ }
+    {
+        self.bytes(b" P ").hexadecimal(bits).bytes(b"\n")
+    }
 }
 
-// The pattern of x. NaN has many, and no answer holds one: here it is the quiet one.
+// The pattern of x. NaN has many: here it is the quiet one.
 fn pattern(x: f64) -> u64
     ensures { λ r. ⌜ r ≡ toBits binary64 x ⌝ }
 {
@@ -145,6 +154,20 @@ pub fn reply_line(number: u64, reply: Reply) -> Line
             count,
         } => start.answer(pattern(total), pattern(volatility), count),
         Reply::Refusal {
+            number: reason,
+            count,
+        } => start.refusal(reason as u64, count),
+    }
+}
+
+// The line of a price's reply with its record's number.
+pub fn price_line(number: u64, reply: PriceReply) -> Line
+    ensures { λ r. ⌜ written r ≡ priceLine number (viewPriceReply reply) ⌝ }
+{
+    let start = Line::empty().decimal(number);
+    match reply {
+        PriceReply::Price(price) => start.price(pattern(price)),
+        PriceReply::Refusal {
             number: reason,
             count,
         } => start.refusal(reason as u64, count),

@@ -11,10 +11,10 @@ use lib.ListN.{length, take}
 use lib.Seq.{take-all, length-take-le}
 use lib.Ieee.{Float}
 use Rattle.arithmetic.specs.Laws.Choices.{by-test, never}
-use Rattle.explicit_black.specs.Quote.{Reply, refusal, impliedBlackVolatilityInput}
+use Rattle.explicit_black.specs.Quote.{Reply, refusal}
 use Rattle.xdr_sheet.specs.Xdr.{unsigned, double}
 use Rattle.xdr_sheet.specs.Sheet.{countBytes, quoteBytes, maxQuotes, priceAt, forwardAt, strikeAt, timeAt, bytesOf, inputBytes}
-use Rattle.xdr_sheet.specs.Sheet.{Size, quotes, refused, noSheet, size, SheetReply, sheetReply, noQuote, replied, replyFrom, replyAt, text}
+use Rattle.xdr_sheet.specs.Sheet.{Size, quotes, refused, noSheet, size, SheetReply, sheetReply, noQuote, replied, replyAt, text}
 
 -- ---- the size by the tests: too short for a count, too many quotes, as long as their count says
 abbrev picked : Bool → Bool → Bool → ℕ → Size
@@ -63,12 +63,13 @@ size-length : (s : List ℕ) (n : ℕ) → quotes n ≡ size s → length s ≡ 
 size-length s n e = sizes s n e .1
 
 -- ---- a quote of a sheet
-pub reply-from : (s : List ℕ) (at side : ℕ) (p f k t : Float) {r : Reply}
+
+-- what is asked of its fields as they were read is asked of them where they stand
+pub of-fields : {R : Type 0} (ask : ℕ → Float → Float → Float → Float → R) (s : List ℕ) (at side : ℕ) (p f k t : Float) {r : R}
     → side ≡ unsigned s at → p ≡ double s (at + priceAt) → f ≡ double s (at + forwardAt)
-    → k ≡ double s (at + strikeAt) → t ≡ double s (at + timeAt)
-    → r ≡ impliedBlackVolatilityInput side p f k t → r ≡ replyFrom s at
-unfolding replyFrom
-reply-from s at side p f k t a b c d e h = h ∙ rw (a, b, c, d, e)
+    → k ≡ double s (at + strikeAt) → t ≡ double s (at + timeAt) → r ≡ ask side p f k t
+    → r ≡ ask (unsigned s at) (double s (at + priceAt)) (double s (at + forwardAt)) (double s (at + strikeAt)) (double s (at + timeAt))
+of-fields ask s at side p f k t a b c d e h = h ∙ rw (a, b, c, d, e)
 
 pub quote-none : (s : List ℕ) (i number count : ℕ) → refused number count ≡ size s → replied (refusal number count) ≡ sheetReply s i
 unfolding sheetReply

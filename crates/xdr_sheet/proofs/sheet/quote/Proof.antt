@@ -1,10 +1,13 @@
 -- `sheet::quote` meets its contract: each figure is read where the definition reads it. Assumes nothing.
-use Rattle.xdr_sheet.specs.Laws.Sheet.{reply-from}
+use Rattle.explicit_black.specs.Quote.{impliedBlackVolatilityInput}
+use Rattle.xdr_sheet.specs.Sheet.{replyFrom}
+use Rattle.xdr_sheet.specs.Laws.Sheet.{of-fields}
 use borrow.Author.Needs.{needs}
 use Rattle.xdr_sheet.proofs.sheet.quote.Statement.{statement}
 use Rattle.xdr_sheet.proofs.sheet.quote.Tie as tie
 
 returns : tie.Need-returns
+unfolding replyFrom
 returns c =
     let time = c .before in
     let strike = time .before in
@@ -12,7 +15,7 @@ returns c =
     let price = forward .before in
     let side = price .before in
     let start = side .before .before in
-    reply-from (start .args .sheet .now) (start .args .at) _ _ _ _ _ (side .unsigned .ensures) (price .double .ensures)
+    of-fields impliedBlackVolatilityInput (start .args .sheet .now) (start .args .at) _ _ _ _ _ (side .unsigned .ensures) (price .double .ensures)
     (forward .double2 .ensures) (strike .double3 .ensures) (time .double4 .ensures) (c .implied-black-volatility-input .ensures)
 
 pub quote-spec : {M : Type 1} → statement M

@@ -1,0 +1,159 @@
+"""What tools/quote and tools/price share: a side and four figures from words or from a CSV file, the program that answers, and its replies in words."""
+import csv
+import pathlib
+import re
+import struct
+import subprocess
+import sys
+
+ROOT = pathlib.Path(__file__).resolve().parents[1]
+SIDES = {"call": 0, "put": 1}
+REFUSALS = {
+    1: "the side is neither 0 (call) nor 1 (put)",
+    2: "a figure is NaN or infinite",
+    3: "the forward or the strike is not above 0",
+    4: "the time is below 0",
+    5: "the time is zero and the price is not the intrinsic value, or 0 where that is below 0",
+    6: "the price is above the forward (call) or the strike (put)",
+    7: "the normalised time value is below 0: the price is below the intrinsic value, or below 0",
+    8: "the normalised price is above its bound b_max",
+    9: "no volatility was found: the search gave none, or a root that is not finite and above 0, or a value at the money that is NaN or below 0",
+    11: "the volatility is below 0",
+}
+
+
+def packed(records):
+    """A side and four figures each, in XDR."""
+    return b"".join(struct.pack(">I4d", *fields) for fields in records)
+
+
+def number(digits):
+    """A figure for a person, from the 16 digits of its bits."""
+    x = struct.unpack(">d", bytes.fromhex(digits))[0]
+    return "infinite" if x == float("inf") else "NaN" if x != x else repr(x)
+
+
+def meaning(refusal):
+    return f"refusal {refusal}: {REFUSALS.get(refusal, 'no such number')}"
+
+
+class Entry:
+    """What is asked of a tool: `record` is the tool's name and that of a line of its files, `crate` the program that answers, `figures` are the
+    names of the four figures after the side, and `results` those of what is printed for a record."""
+
+    def __init__(self, record, crate, figures, results):
+        self.record, self.crate, self.figures, self.results = record, crate, figures, results
+        self.program = ROOT / "target/bin" / crate
+
+    def stop(self, status, message):
+        print(f"{self.record}: {message}", file=sys.stderr)
+        sys.exit(status)
+
+    def side(self, text, where):
+        word = text.strip().lower()
+        if word in SIDES:
+            return SIDES[word]
+        if not re.fullmatch(r"[0-9]+", word) or int(word) >= 2**32:
+            self.stop(2, f"{where}the side is 0 or call, 1 or put, not {text!r}")
+        return int(word)
+
+    def figure(self, name, text, where):
+        word = text.strip()
+        try:
+            value = float(word.replace("_", "?"))
+        except ValueError:
+            self.stop(2, f"{where}the {name} is a number, not {text!r}")
+        # a number that binary64 does not reach would be another record
+        if re.search(r"\d", word) and (abs(value) == float("inf") or value == 0 and re.search(r"[1-9]", re.split("[eE]", word)[0])):
+            self.stop(2, f"{where}the {name} {word} is beyond what binary64 holds")
+        return value
+
+    def fields(self, words, where=""):
+        if len(words) != 5:
+            self.stop(2, f"{where}a {self.record} has 5 fields (side, {', '.join(self.figures)}), not {len(words)}")
+        return (self.side(words[0], where), *(self.figure(name, text, where) for name, text in zip(self.figures, words[1:])))
+
+    def records_of(self, path):
+        try:
+            with open(path, newline="", encoding="utf-8-sig") as file:
+                reader = csv.reader(file, strict=True)
+                rows = [(reader.line_num, row) for row in reader if any(field.strip() for field in row)]
+        except OSError as error:
+            self.stop(2, f"{path}: {error.strerror}")
+        except (UnicodeDecodeError, csv.Error) as error:
+            self.stop(2, f"{path} is no CSV file: {error}")
+        if rows and rows[0][1][0].strip().lower() == "side":
+            rows = rows[1:]
+        if not rows:
+            self.stop(2, f"{path} has no {self.record}s")
+        return [self.fields(row, f"{path}, line {number}: ") for number, row in rows]
+
+    def build(self):
+        if self.program.exists():
+            return
+        name, check = f"target/bin/{self.crate}", f"rt check {self.crate}"
+        print(f"{self.record}: {name} is missing; proving and building it ({check}), which takes minutes", file=sys.stderr)
+        # rt leaves a crate alone that its stamp says is proved, also where the program was removed
+        (ROOT / "target/stamp" / self.crate).unlink(missing_ok=True)
+        try:
+            status = subprocess.run(check.split(), cwd=ROOT, stdout=sys.stderr).returncode
+        except OSError as error:
+            self.stop(3, f"rt: {error.strerror}")
+        if status != 0 or not self.program.exists():
+            self.stop(3, f"{check} did not build {name}, or its run failed")
+
+    def asked(self, given, count, answer, ending, whole):
+        """The program's replies to the bytes `given`, which hold `count` records: (None, groups of the pattern `answer`), or (refusal, its count).
+        `ending` says of a number of answers which lines come last."""
+        try:
+            ran = subprocess.run([str(self.program)], input=given, stdout=subprocess.PIPE)
+        except OSError as error:
+            self.stop(3, f"{self.program}: {error.strerror}")
+        lines = ran.stdout.decode("ascii", "replace").split("\n")
+        found = []
+        for i, line in enumerate(lines[:count], 1):
+            if match := re.fullmatch(f"{i} {answer}", line):
+                found.append((None, match.groups()))
+            elif match := re.fullmatch(rf"{i} R (\d+) (\d+)", line):
+                found.append((int(match[1]), match[2]))
+        answers = sum(refusal is None for refusal, _ in found)
+        if ran.returncode != 0 or len(found) != count or lines[count:] != ending(answers):
+            self.stop(3, f"{self.program} did not answer {whole}")
+        return found
+
+    def show(self, refusal, results):
+        if refusal is not None:
+            print(meaning(refusal))
+        width = max(len(name) for name in self.results)
+        for name, result in zip(self.results, results):
+            if result != "-":
+                print(f"{name.ljust(width)}  {result}")
+
+    def table(self, records, replies):
+        rows = [["", "side", *self.figures, *self.results]]
+        notes = [""]
+        for i, (fields, (refusal, results)) in enumerate(zip(records, replies), 1):
+            what = {0: "call", 1: "put"}.get(fields[0], str(fields[0]))
+            rows.append([str(i), what, *(repr(x) for x in fields[1:]), *results])
+            notes.append("" if refusal is None else meaning(refusal))
+        widths = [max(len(row[k]) for row in rows) for k in range(len(rows[0]))]
+        for row, note in zip(rows, notes):
+            print("  ".join([field.rjust(width) for field, width in zip(row, widths)] + [note]).rstrip())
+        answered = sum(refusal is None for refusal, _ in replies)
+        print(f"{len(records)} {self.record}s: {answered} answered, {len(records) - answered} refused")
+
+    def main(self, replies_to, usage):
+        """`replies_to` has a pair for each of the records: None or the refusal, and the results as text, `-` for what a refusal leaves out."""
+        words = sys.argv[1:]
+        if words in (["-h"], ["--help"]):
+            print(usage)
+        elif len(words) == 5:
+            given = self.fields(words)
+            self.build()
+            self.show(*replies_to([given])[0])
+        elif len(words) == 1:
+            given = self.records_of(words[0])
+            self.build()
+            self.table(given, replies_to(given))
+        else:
+            self.stop(2, f"five fields or one CSV file\n{usage}")

@@ -1,13 +1,15 @@
-//! What a quote and a sheet take of the machine: instructions, stack, text and constants.
+//! What a quote, a price and a sheet take of the machine: instructions, stack, text and constants.
 
 use crate::{ours, timing};
 use oracle::inputs::{KINDS, Quote, Quotes, Rng};
+use oracle::price_inputs::{Keyed, PRICE_KINDS, Prices};
 use std::arch::asm;
 use std::io::Write;
 use std::path::Path;
 use std::process::{Command, Stdio};
 
 const QUOTES: usize = 2000;
+const PRICES: usize = 20_000;
 const NEAR_BOUND: usize = 200_000;
 const PAINT: u64 = 0xA5A5_A5A5_A5A5_A5A5;
 const WORDS: usize = 4096;
@@ -55,8 +57,9 @@ fn instructions(which: &str) -> Option<f64> {
     line.split(':').next_back()?.trim().parse::<f64>().ok().map(|n| n / QUOTES as f64)
 }
 
-/// Bytes of stack that one quote writes below its caller's frame, its return address included.
-fn quote_stack(stack: &mut [u64], q: Quote) -> usize {
+/// Bytes of stack that one call writes below its caller's frame, its return address included. The function takes a side, four figures and
+/// up to three places to write to.
+fn painted(stack: &mut [u64], function: usize, side: u32, [a, b, c, d]: [f64; 4]) -> usize {
     stack.fill(PAINT);
     let top = unsafe { stack.as_mut_ptr().add(stack.len()) } as u64 & !15;
     let (mut total, mut volatility, mut count) = (0.0f64, 0.0f64, 0u64);
@@ -64,24 +67,32 @@ fn quote_stack(stack: &mut [u64], q: Quote) -> usize {
         asm!(
             "mov r12, rsp",
             "mov rsp, {top}",
-            "call {quote}",
+            "call {function}",
             "mov rsp, r12",
             top = in(reg) top,
-            quote = sym ours::quoter_quote,
-            in("edi") q.side,
+            function = in(reg) function,
+            in("edi") side,
             in("rsi") &mut total,
             in("rdx") &mut volatility,
             in("rcx") &mut count,
-            in("xmm0") q.price,
-            in("xmm1") q.forward,
-            in("xmm2") q.strike,
-            in("xmm3") q.time,
+            in("xmm0") a,
+            in("xmm1") b,
+            in("xmm2") c,
+            in("xmm3") d,
             out("r12") _,
             clobber_abi("C"),
         );
     }
     let untouched = stack.iter().take_while(|&&word| word == PAINT).count();
     top as usize - (stack.as_ptr() as usize + 8 * untouched)
+}
+
+fn quote_stack(stack: &mut [u64], q: Quote) -> usize {
+    painted(stack, ours::quoter_quote as *const () as usize, q.side, [q.price, q.forward, q.strike, q.time])
+}
+
+fn price_stack(stack: &mut [u64], k: Keyed) -> usize {
+    painted(stack, ours::quoter_price as *const () as usize, k.side, [k.volatility, k.forward, k.strike, k.time])
 }
 
 /// Calls and puts at all distances from the bound of their price, where an exponential may leave its fast path.
@@ -106,6 +117,14 @@ fn quotes_stack() -> usize {
     }
     near_bound(NEAR_BOUND).into_iter().for_each(|q| most = most.max(quote_stack(&mut stack, q)));
     most
+}
+
+/// The most over prices of every kind.
+fn prices_stack() -> usize {
+    let mut stack = vec![PAINT; WORDS];
+    let kinds = (0..PRICE_KINDS.len()).map(|kind| Prices::new(kind, 1));
+    let most = |mut source: Prices| (0..PRICES).map(|_| price_stack(&mut stack, source.next())).max().unwrap();
+    kinds.map(most).max().unwrap()
 }
 
 /// A sheet of 1,000 quotes near the bound of their price: of those painted, the ones that took most stack.
@@ -171,6 +190,7 @@ pub fn table(target: &Path) {
     print("library: constants, bytes", library.map(|[_, constants]| constants), "size");
     print("library: both, of 98304", library.map(|[text, constants]| text + constants), "size");
     print(&format!("stack of a quote, most of {} (painted), of 4096", QUOTES * KINDS.len() + NEAR_BOUND), Some(quotes_stack()), "");
+    print(&format!("stack of a price, most of {} (painted), of 4096", PRICES * PRICE_KINDS.len()), Some(prices_stack()), "");
     let found = sheet_stack(&target.join("bin/sheet"), &target.join("bench/massif.out"));
     print("stack of program sheet, 1,000 quotes (massif), of 49152", found, "valgrind or target/bin/sheet");
 }

@@ -1,6 +1,8 @@
 //! The C interface of `exports` (include/quoter.h).
 
 use oracle::inputs::Quote;
+use oracle::price;
+use oracle::price_inputs::Keyed;
 use oracle::quote::Outcome;
 
 unsafe extern "C" {
@@ -31,6 +33,7 @@ unsafe extern "C" {
         volatility: *mut f64,
         count: *mut u64,
     ) -> u32;
+    pub fn quoter_price(side: u32, volatility: f64, forward: f64, strike: f64, time: f64, price: *mut f64) -> u32;
 }
 
 /// A function of `vectors` by its number.
@@ -67,5 +70,14 @@ pub fn quote(q: Quote) -> Outcome {
     {
         0 => Outcome::Answer { total, volatility, count },
         number => Outcome::Refusal { number, count },
+    }
+}
+
+#[inline]
+pub fn price(k: Keyed) -> price::Outcome {
+    let mut price = 0.0;
+    match unsafe { quoter_price(k.side, k.volatility, k.forward, k.strike, k.time, &mut price) } {
+        0 => price::Outcome::Price(price),
+        number => price::Outcome::Refusal { number, count: 0 },
     }
 }

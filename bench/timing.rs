@@ -2,6 +2,7 @@
 
 use crate::ours;
 use oracle::inputs::{Quote, Quotes, Rng};
+use oracle::price_inputs::{Keyed, Prices};
 use oracle::quote::Outcome;
 use std::hint::black_box;
 use std::time::Instant;
@@ -161,6 +162,30 @@ fn quotes(name: &str, list: &[Quote]) {
     report(unlike, list.len());
 }
 
+/// The source's own price, with the platform's exp and ln.
+fn plain_price(k: Keyed) -> f64 {
+    use platform::DefaultSpecialFn;
+    use platform::lets_be_rational::bs_option_price::black_input_unchecked as price;
+    match k.side {
+        0 => price::<DefaultSpecialFn, true>(k.forward, k.strike, k.volatility, k.time),
+        _ => price::<DefaultSpecialFn, false>(k.forward, k.strike, k.volatility, k.time),
+    }
+}
+
+/// Desk prices. At the money the source has another formula, so none is there.
+fn prices(name: &str) {
+    let mut source = Prices::new(0, 1);
+    let list: Vec<Keyed> =
+        std::iter::from_fn(|| Some(source.next())).filter(|k| k.forward != k.strike).take(INPUTS).collect();
+    let rust = |k: Keyed| oracle::price::of_source(k.side, k.volatility, k.forward, k.strike, k.time);
+    let same = |k: Keyed| ours::price(k).line() == oracle::price::Outcome::Price(rust(k)).line();
+    let unlike = list.iter().filter(|&&k| !same(k)).count();
+    let functions: [&dyn Fn(Keyed); 3] =
+        [&|k| _ = black_box(ours::price(k)), &|k| _ = black_box(rust(k)), &|k| _ = black_box(plain_price(k))];
+    row(name, least(ROUNDS, 1024, &list, functions));
+    report(unlike, list.len());
+}
+
 pub fn table() {
     println!("{:36} {:>9} {:>9} {:>9} {:>8} {:>8}", "ns", "ours", "rust", "platform", "to rust", "to plat.");
     functions();
@@ -169,4 +194,5 @@ pub fn table() {
     let inside = |q: Quote, _| q.side < 2 && q.forward > 0.0 && q.strike > 0.0 && q.time >= 0.0;
     quotes("edge quotes", &list(1, INPUTS, inside));
     quotes("survival path", &list(0, INPUTS, on_survival_path));
+    prices("desk prices");
 }

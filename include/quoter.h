@@ -78,7 +78,8 @@ uint32_t quoter_normalised(double log_moneyness, double price, double *total, do
 
 /* The price of a volatility (section 14.1).
    Returns 0 for a price: it is written. Where volatility times the root of time is 0, it is the intrinsic value, or 0 where that is below 0.
-   Where it is NaN, only that is promised; none has been met.
+   Rounding may take a price past its bound by some units in the last place, so that quoter_quote refuses it with 6, and past the largest number,
+   so that it is infinite. Where it is NaN, only that is promised; none has been met.
    Otherwise returns the number of a refusal: nothing is written. Of the refusals above 1 to 4 come first, 2 for the volatility too, and then 11:
    minus zero is not below 0. */
 uint32_t quoter_price(uint32_t side, double volatility, double forward, double strike, double time, double *price);

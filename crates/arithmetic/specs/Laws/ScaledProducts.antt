@@ -2,7 +2,7 @@
 -- 2 ^ -1022, or where both are 0. What is at most 2 ^ -1022 rounds to no more, so a product above it was rounded in the normal range. Assumes nothing.
 use mathlib.Core.Path.{_≡_, sym, ap, _∙_, subst}
 use mathlib.Core.Logic.{_⊎_, inl, inr}
-use Prim.Native.Nat.{ℕ, _+_, _*_, _^_, _≤_, _<_}
+use Prim.Native.Nat.{ℕ, _*_, _^_, _≤_, _<_}
 use native.Mathlib.Nat.{le-trans, le-of-eq, le-of-lt, one-mul, zero-mul, mul-one, add-zero, mul-pos, mul-left-comm, mul-le-mul-left}
 use native.Mathlib.Omega.{arith}
 use mathlib.Core.Bool.{Bool, true, false, Bool·beq, _||_, cond}

@@ -1,6 +1,6 @@
 -- The law of 4 ^ n for prices (REQUIREMENTS 14.1): where forward and strike are exactly 4 ^ n times another's, with one side, volatility and time, both
 -- are refused with one number, or the price is exactly 4 ^ n times the other's. Assumes nothing.
-use mathlib.Core.Path.{_≡_, refl, sym, ap, _∙_, subst}
+use mathlib.Core.Path.{_≡_, sym, ap, _∙_, subst}
 use mathlib.Core.Logic.{_⊎_, inl, inr}
 use Prim.Native.Nat.{ℕ, suc, _+_, _*_, _^_}
 use native.Mathlib.Nat.{mul-one, mul-right-comm}
@@ -25,7 +25,7 @@ use Rattle.arithmetic.specs.Laws.ScaledProducts.{product-times}
 use Rattle.bs_option_price.specs.BsOptionPrice.{normalisedBlack, negativeAbsLogMoneyness}
 use Rattle.bs_option_price.specs.Laws.Moneyness.{BoundedRatio, log-times}
 use Rattle.explicit_black.specs.Quote.{firstRefusal, intrinsicValue}
-use Rattle.explicit_black.specs.Price.{PriceReply, price, refusal, priceRefusal, timeValue, priceOf, blackPrice, BothAboveOrZero}
+use Rattle.explicit_black.specs.Price.{price, refusal, priceRefusal, timeValue, priceOf, blackPrice, BothAboveOrZero}
 use Rattle.explicit_black.specs.Demand.{Exactly, ComparablePair}
 use Rattle.explicit_black.specs.Laws.Demand.{above-plusZero, difference-finite, exactly-up, exactly-down, comparable-ratio}
 
@@ -155,19 +155,11 @@ module _ (n : ℤ) (side v f k t f' k' : ℕ) (h : ComparablePair (bits f) (bits
   abbrev s : Float
   s = bits v ⊗ sqrt (bits t)
 
-  -- they are refused alike
-  pub same-refusal : (m : ℕ) → blackPrice side (bits v) (bits f) (bits k) (bits t) ≡ refusal m 0
-      → blackPrice side (bits v) (bits f') (bits k') (bits t) ≡ refusal m 0
-  unfolding blackPrice
-  same-refusal m r =
-      let same = tests-alike side (bits v) (bits f) (bits k) (bits t) (bits f') (bits k') (comparable-ratio f k h) (comparable-ratio f' k' h') in
-      rw same (go (eqb (priceRefusal side (bits v) (bits f) (bits k) (bits t)) 0) _ _ _ r)
-    where
-      go : (b : Bool) (p p' : Float) (m' : ℕ) → cond b (price p) (refusal m' 0) ≡ refusal m 0 → cond b (price p') (refusal m' 0) ≡ refusal m 0
-      go true p p' m' e = never (cc)
-      go false p p' m' e = e
+  -- one number, 0 where there is a price
+  pub same-number : priceRefusal side (bits v) (bits f') (bits k') (bits t) ≡ priceRefusal side (bits v) (bits f) (bits k) (bits t)
+  same-number = tests-alike side (bits v) (bits f) (bits k) (bits t) (bits f') (bits k') (comparable-ratio f k h) (comparable-ratio f' k' h')
 
-  -- where both have a price, and the time values and the prices are finite, and each above 2 ^ -1022 in both or 0 in both
+  -- the prices, where both have one, and they and the time values meet the terms of the law
   pub price-scales : (p p' : Float) → blackPrice side (bits v) (bits f) (bits k) (bits t) ≡ price p
       → blackPrice side (bits v) (bits f') (bits k') (bits t) ≡ price p'
       → BothAboveOrZero (timeValue (bits f) (bits k) s) (timeValue (bits f') (bits k') s) → BothAboveOrZero p p' → Exactly n p p'

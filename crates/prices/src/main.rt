@@ -1,12 +1,15 @@
 // Prices of volatilities. Standard input holds records of 36 bytes: an unsigned side and the doubles
 // volatility, forward, strike and time, as XDR writes them. Each record gives a line: its number, from 1
-// on, and its price or its refusal. Input that ends inside a record ends the run there.
+// on, and its price or its refusal. Input that ends inside a record ends the run there, and so does a read
+// or a write that fails.
+use xdr_sheet::price_record::Numbered;
 use xdr_sheet::price_record::RECORD_BYTES;
+use xdr_sheet::price_record::RecordNumber;
 use xdr_sheet::price_record::price_reply;
 use xdr_sheet::text::price_line;
 
 // Reads a record and writes its line; whether both were done.
-fn answer_record(number: u64) -> bool {
+fn answer_record(number: RecordNumber) -> bool {
     let mut record = [0u8; RECORD_BYTES];
     if io::read_full(libc::STDIN_FILENO, &mut record) < RECORD_BYTES {
         return false;
@@ -18,8 +21,11 @@ fn answer_record(number: u64) -> bool {
 }
 
 fn main() {
-    let mut number: u64 = 1;
-    while number < u64::MAX && answer_record(number) {
-        number += 1;
+    let mut next = RecordNumber::first();
+    while let Numbered::Record(number) = next {
+        if !answer_record(number) {
+            return;
+        }
+        next = number.after();
     }
 }

@@ -8,6 +8,7 @@ ghost use Rattle.explicit_black.specs.Replies.{viewReply, viewPriceReply};
 ghost use Rattle.xdr_sheet.specs.Text.{lineBytes, decimalDigits, hexadecimalDigits};
 ghost use Rattle.xdr_sheet.specs.Text.{decimal, hexadecimal, answerFields, refusalFields, priceFields, line, priceLine, closing, refusedSheet};
 ghost use Rattle.xdr_sheet.specs.Internal.Lines.{written, Extended, bytesPlaced, bufferAfter};
+use crate::price_record::RecordNumber;
 use crate::tally::Tally;
 use explicit_black::price::PriceReply;
 use explicit_black::quote::Reply;
@@ -161,10 +162,10 @@ pub fn reply_line(number: u64, reply: Reply) -> Line
 }
 
 // The line of a price's reply with its record's number.
-pub fn price_line(number: u64, reply: PriceReply) -> Line
-    ensures { λ r. ⌜ written r ≡ priceLine number (viewPriceReply reply) ⌝ }
+pub fn price_line(number: RecordNumber, reply: PriceReply) -> Line
+    ensures { λ r. ⌜ written r ≡ priceLine (number .number) (viewPriceReply reply) ⌝ }
 {
-    let start = Line::empty().decimal(number);
+    let start = Line::empty().decimal(number.number());
     match reply {
         PriceReply::Price(price) => start.price(pattern(price)),
         PriceReply::Refusal {

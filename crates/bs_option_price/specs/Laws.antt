@@ -2,3 +2,4 @@
 pub mod Constants
 pub mod Table
 pub mod Moneyness
+pub mod MoneynessBounds

@@ -8,17 +8,22 @@ use native.Mathlib.Nat.{le-of-eq, le-of-lt, lt-of-le-of-lt, mul-one, mul-pos, mu
 use native.Mathlib.Omega.{arith}
 use borrow.Author.Tests.{ltb-false}
 use lib.IntN.{ℤ, pos}
-use lib.Dec.{T, lit≤}
+use lib.Dec.{T, lit≤, ltb→lt}
 use lib.Pow.{pow-pos}
 use lib.Ieee.{Float, nan, inf, fin, binary64, up, down, unlike, round, add, div, mul, neg, lt, eq, isNan, fits, ofBits}
-use lib.Ieee.Fits.{div-fits, up-pos}
+use lib.Ieee.Fits.{div-fits, up-pos, down-pos}
 use lib.Ieee.Scale.{finite}
-use lib.Ieee.Positive.{num, den, den-pos}
+use lib.Ieee.Positive.{num, den, den-pos, positive, positive-finite}
 use Rattle.arithmetic.specs.Operations.{_⊕_, _⊗_, _⊘_, plusZero, half, two}
 use Rattle.arithmetic.specs.Basic.{isSignMinus, isInfinite, max, takesFirst}
 use Rattle.arithmetic.specs.Laws.Choices.{in-both, by-test}
 use Rattle.arithmetic.specs.Laws.Numbers.{lt-or-le}
+use Rattle.arithmetic.specs.Sqrt.{sqrt}
 use Rattle.arithmetic.specs.Laws.Compare.{finite-no-nan}
+use Rattle.arithmetic.specs.Laws.Identities.{mul-swap}
+use Rattle.arithmetic.specs.Laws.Times.{positive-sign}
+use Rattle.arithmetic.specs.Laws.SqrtBounds.{sqrt-positive, roots-positive}
+use Rattle.arithmetic.specs.Laws.Quotients.{mul-no-nan}
 use Rattle.arithmetic.specs.Laws.Sums.{add-is}
 use Rattle.arithmetic.specs.Laws.Products.{mul-is, div-is}
 use Rattle.arithmetic.specs.Laws.ScaledRatios.{positive-zero}
@@ -26,11 +31,13 @@ use Rattle.arithmetic.specs.Laws.Bounds.{round-to-zero}
 use Rattle.special_function.specs.Constants.{frac1Sqrt2Pi}
 use Rattle.bs_option_price.specs.BsOptionPrice.{eta, isRegion1, isRegion2, normalisedBlackWithOptimalUseOfCodysFunctions}
 use Rattle.bs_option_price.specs.BsOptionPrice.{normalisedBlackWithOptimalUseOfCodysFunctionsImpl, normalisedVega, normalisedBlack}
+use Rattle.bs_option_price.specs.BsOptionPrice.{negativeAbsLogMoneyness}
 use Rattle.arithmetic.specs.Laws.Sizes.{grain-held, round-upper, sum-alike, round-minus, round-cases}
 use Rattle.arithmetic.specs.Laws.PowerBounds.{square-is, Small, small-mul, small-of}
 use Rattle.arithmetic.specs.Laws.ExpBounds.{exp-minus}
 use Rattle.bs_option_price.specs.Laws.AsymptoticExpansion.{border, add-infinity, expansion-small}
-use Rattle.bs_option_price.specs.Laws.SmallTExpansion.{small-t-small, infinite-outside}
+use Rattle.bs_option_price.specs.Laws.MoneynessBounds.{Price, log-moneyness-small}
+use Rattle.bs_option_price.specs.Laws.SmallTExpansion.{plus-not-below, small-t-small, infinite-outside}
 
 -- ---- `max` drops a NaN
 number-or-zero : (x : Float) → isNan (max x plusZero) ≡ false
@@ -230,3 +237,55 @@ black-no-nan y x (inf false) p l n g =
 black-no-nan y x (fin true m e) p l n g = zero-priced y (x ⊘ fin true m e) (fin true m e) tt (minus-zero m e g)
 black-no-nan y x (fin false zero e) p l n g = zero-priced y (x ⊘ fin false 0 e) (fin false 0 e) tt (zero-mul (up e))
 black-no-nan y x (fin false (suc m) e) p l n g = finite-priced x (fin false (suc m) e) p l tt refl (mul-pos (zero-lt-suc m) (up-pos e)) y
+
+-- ---- a volatility times the root of a time, which r stands for
+infinite-product : (r : Float) → T (positive r) → lt (inf false ⊗ r) plusZero ≡ false
+unfolding lt mul ofBits
+infinite-product nan p = absurd p
+infinite-product (inf t) p = absurd p
+infinite-product (fin true m e) p = absurd p
+infinite-product (fin false m e) p = rw (positive-zero m (ltb→lt 0 m p)) refl
+
+plus-product : (m : ℕ) (e : ℤ) (r : Float) → T (positive r) → lt (fin false m e ⊗ r) plusZero ≡ false
+plus-product m e r p =
+    plus-not-below (fin false m e ⊗ r)
+    (ap isSignMinus (mul-is binary64 (fin false m e) r tt (positive-finite r p)) ∙ rw (positive-sign r p) (round-minus false _ _))
+
+minus-zero-not-below : lt (fin true 0 (pos 0)) plusZero ≡ false
+unfolding lt ofBits
+minus-zero-not-below = refl
+
+zero-product : (m : ℕ) (e : ℤ) (r : Float) → m * up e ≡ 0 → T (positive r) → lt (fin true m e ⊗ r) plusZero ≡ false
+zero-product m e r z p =
+    let none : m * up e * num r * 2 ^ 1075 ≡ 0 =
+    ap (λ (z : ℕ). z * num r * 2 ^ 1075) z ∙ ap (λ (z : ℕ). z * 2 ^ 1075) (zero-mul (num r)) ∙ zero-mul (2 ^ 1075) in
+    let is : fin true m e ⊗ r ≡ fin true 0 (pos 0) =
+    mul-is binary64 (fin true m e) r tt (positive-finite r p)
+    ∙ rw (positive-sign r p) (round-to-zero true (m * up e * num r) (down e * den r)
+    (lt-of-le-of-lt (le-of-eq none) (mul-pos (down-pos e) (den-pos r)))) in
+    ap (λ (z : Float). lt z plusZero) is ∙ minus-zero-not-below
+
+not-below : (v r : Float) → T (positive r) → isNan v ≡ false → lt v plusZero ≡ false → lt (v ⊗ r) plusZero ≡ false
+unfolding isNan lt ofBits
+not-below nan r p n g = absurd (true≢false n)
+not-below (inf true) r p n g = absurd (true≢false g)
+not-below (inf false) r p n g = infinite-product r p
+not-below (fin false m e) r p n g = plus-product m e r p
+not-below (fin true m e) r p n g = zero-product m e r (minus-zero m e g) p
+
+-- ---- NO TIME VALUE IS A NaN: of finite prices and a finite time above 0, and a volatility that is a number and not below 0, infinite as it may be
+module _ (forward strike volatility time : Float) (F : Price forward) (K : Price strike) (M : Price time)
+    (n : isNan volatility ≡ false) (g : lt volatility plusZero ≡ false) where
+  abbrev logMoneyness : Float
+  logMoneyness = negativeAbsLogMoneyness forward strike
+
+  abbrev spread : Float
+  spread = volatility ⊗ sqrt time
+
+  pub time-value-no-nan : isNan (sqrt forward ⊗ sqrt strike ⊗ normalisedBlack (logMoneyness ⊘ two) (logMoneyness ⊘ spread) (spread ⊘ two)) ≡ false
+  time-value-no-nan =
+      let r = sqrt-positive time (M .above) (M .held) in
+      let x : Small 11 logMoneyness = log-moneyness-small forward strike F K in
+      mul-no-nan binary64 (sqrt forward ⊗ sqrt strike) _ (roots-positive forward strike (F .above) (F .held) (K .above) (K .held))
+      (black-no-nan (logMoneyness ⊘ two) logMoneyness spread (x .is-finite) (x .bound)
+      (ap isNan (mul-swap binary64 volatility (sqrt time)) ∙ mul-no-nan binary64 (sqrt time) volatility r n) (not-below volatility (sqrt time) r n g))

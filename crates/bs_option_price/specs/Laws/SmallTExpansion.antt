@@ -40,7 +40,7 @@ use Rattle.special_function.specs.Laws.ErfcxBounds.{erfcx-small}
 use Rattle.bs_option_price.specs.Laws.AsymptoticExpansion.{border, add-infinity}
 
 -- ---- what is not below 0
-plus-not-below : (z : Float) → isSignMinus z ≡ false → lt z plusZero ≡ false
+pub plus-not-below : (z : Float) → isSignMinus z ≡ false → lt z plusZero ≡ false
 unfolding lt ofBits
 plus-not-below nan s = refl
 plus-not-below (inf true) s = absurd (true≢false s)

@@ -94,7 +94,7 @@ pub record Between (j k : ℕ) (x : Float) : Type 0 where
 plus-round : (a c k : ℕ) → 0 < c → k ≤ 1023 → a ≤ 2 ^ k * c → Plus k (round binary64 false a c)
 plus-round a c k C K h = let u = small-round false a c k C K h in record { small = u .0; sign = u .1 }
 
-pub plus-widen : {j : ℕ} (k : ℕ) {x : Float} → Plus j x → j ≤ k → Plus k x
+plus-widen : {j : ℕ} (k : ℕ) {x : Float} → Plus j x → j ≤ k → Plus k x
 plus-widen k h l = record { small = small-widen k (h .small) l; sign = h .sign }
 
 pub between-widen : {i j : ℕ} (k : ℕ) {x : Float} → Between i j x → j ≤ k → Between i k x

@@ -1,5 +1,5 @@
--- The asymptotic expansion is finite where it answers. With |h| from n to n + 1 and t below n - 11, the difference of the squares is n + 1 at least, so
--- both quotients by it are 1 at most in size. Assumes nothing.
+-- The asymptotic expansion is finite where it answers. With |h| from m + 11 to m + 12 and t of m at most, the difference of the squares is
+-- m + 12 at least, so both quotients by it are 1 at most in size. Assumes nothing.
 use mathlib.Core.Path.{_≡_, refl, sym, ap, _∙_, subst}
 use mathlib.Core.Logic.{_⊎_, inl, inr}
 use mathlib.Core.Bool.{Bool, true, false, true≢false}
@@ -42,7 +42,7 @@ add-infinity (inf u) p = absurd p
 add-infinity (fin u k e) p = refl
 
 -- ---- the tests
-pub under-eta : (h : Float) → T (finite h) → lt h eta ≡ true → (isSignMinus h ≡ true) × (13 * den h < num h)
+under-eta : (h : Float) → T (finite h) → lt h eta ≡ true → (isSignMinus h ≡ true) × (13 * den h < num h)
 unfolding lt ofBits
 under-eta nan p l = absurd p
 under-eta (inf s) p l = absurd p
@@ -80,7 +80,7 @@ not-under z (inr (p, h)) =
         le-ltb (m * d) (n * e) (omega arith)
 not-under z (inl s) = plus-not-under z s
 
-pub under-border : (t h : Float) → T (finite t) → T (finite h) → isSignMinus t ≡ false → isSignMinus h ≡ true → lt (t ⊕ h) border ≡ true
+under-border : (t h : Float) → T (finite t) → T (finite h) → isSignMinus t ≡ false → isSignMinus h ≡ true → lt (t ⊕ h) border ≡ true
     → num t * den h + 12 * (den t * den h) < num h * den t
 unfolding sum
 under-border t h p q s u l = elim (lt-or-le (num t * den h + 12 * (den t * den h)) (num h * den t)) [
@@ -107,7 +107,7 @@ under-border t h p q s u l = elim (lt-or-le (num t * den h + 12 * (den t * den h
         let b = round-upper true (B - A) C 12 1 (mul-pos (den-pos t) (den-pos h)) (pow-pos 0) (grain-held 12 0 (lit≤ tt) (lit≤ tt)) (omega arith) in
         rw (lt-ltb A B k) (inr (b .0, omega (arith, b .2)))
 
--- ---- |h| is n / 1 at least and below n + 1, and t is below m = n - 11
+-- ---- |h| lies from m + 11 to m + 12, and t is m at most
 record Near (hn hd tn td : ℕ) : Type 0 where
   m : ℕ
   from : (m + 11) * hd ≤ hn

@@ -1,5 +1,5 @@
--- No normalised price is a NaN: for a finite x of size 2 ^ 11 at most, and an s that is a number and not below 0, infinite, zero or subnormal as it may be.
--- Assumes nothing.
+-- No normalised price is a NaN, for a finite x of size 2 ^ 11 at most and an s that is a number and not below 0, be it infinite, zero or subnormal;
+-- and so no time value is, for finite prices and a finite time above 0. Assumes nothing.
 use mathlib.Core.Path.{_≡_, refl, sym, ap, _∙_, subst}
 use mathlib.Core.Logic.{_⊎_, inl, inr}
 use mathlib.Core.Bool.{Bool, true, false, _&&_, _||_, or-true, true≢false}
@@ -273,7 +273,7 @@ not-below (inf false) r p n g = infinite-product r p
 not-below (fin false m e) r p n g = plus-product m e r p
 not-below (fin true m e) r p n g = zero-product m e r (minus-zero m e g) p
 
--- ---- NO TIME VALUE IS A NaN: of finite prices and a finite time above 0, and a volatility that is a number and not below 0, infinite as it may be
+-- ---- NO TIME VALUE IS A NaN, for finite prices and a finite time above 0, and a volatility that is a number and not below 0, be it infinite
 module _ (forward strike volatility time : Float) (F : Price forward) (K : Price strike) (M : Price time)
     (n : isNan volatility ≡ false) (g : lt volatility plusZero ≡ false) where
   abbrev logMoneyness : Float

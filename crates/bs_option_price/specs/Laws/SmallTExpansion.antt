@@ -89,7 +89,7 @@ tau-parts : (num (neg tau) ≡ 3787060782393815) × (den (neg tau) ≡ 180143985
 unfolding neg ofBits
 tau-parts = (refl, refl, refl, tt)
 
--- c is 1 / 16 at most and tau 1 / 4: what is 16 times h c at most, and a quarter more
+-- c is 1 / 16 at most and tau 1 / 4 at most: where |h| / 16 + 1 / 4 is t at most, |h| c is t - tau at most; k is that difference in units of 2 ^ -54
 coarse : (n d a c k : ℕ) → k + 3787060782393815 * c ≡ a * 18014398509481984 → n * c + 4 * (c * d) ≤ 16 * (a * d)
     → n * 1385722962267845 * (18014398509481984 * c) ≤ k * (d * 36028797018963968)
 coarse n d a c k e h = last (n * c) (k * d) (middle (k * d) (a * d) (c * d) (n * c) (first k d a c e) h) (regroup n c) (regroup-right k d)

@@ -113,7 +113,7 @@ smoothened-small x h =
     (exp-small _ (size-small 8 (size-mul 16384 (size-sub h t (lit≤ tt)) (size-add h t (lit≤ tt)) (lit≤ tt) (lit≤ tt)) (lit≤ tt))) (lit≤ tt)
 
 -- ---- the law
-pub plus-abs : {k : ℕ} (x : Float) → Small k x → Plus k (abs x)
+plus-abs : {k : ℕ} (x : Float) → Small k x → Plus k (abs x)
 unfolding abs
 plus-abs nan h = absurd (h .is-finite)
 plus-abs (inf s) h = absurd (h .is-finite)

@@ -1,5 +1,5 @@
 -- No normalised price is a NaN, for a finite x of size 2 ^ 11 at most and an s that is a number and not below 0, be it infinite, zero or subnormal;
--- and so no time value is, for finite prices and a finite time above 0. Assumes nothing.
+-- and so no time value is, for finite prices above 0. Assumes nothing.
 use mathlib.Core.Path.{_≡_, refl, sym, ap, _∙_, subst}
 use mathlib.Core.Logic.{_⊎_, inl, inr}
 use mathlib.Core.Bool.{Bool, true, false, _&&_, _||_, or-true, true≢false}
@@ -273,19 +273,24 @@ not-below (inf false) r p n g = infinite-product r p
 not-below (fin false m e) r p n g = plus-product m e r p
 not-below (fin true m e) r p n g = zero-product m e r (minus-zero m e g) p
 
--- ---- NO TIME VALUE IS A NaN, for finite prices and a finite time above 0, and a volatility that is a number and not below 0, be it infinite
-module _ (forward strike volatility time : Float) (F : Price forward) (K : Price strike) (M : Price time)
-    (n : isNan volatility ≡ false) (g : lt volatility plusZero ≡ false) where
+-- ---- NO TIME VALUE IS A NaN, for finite prices above 0 and a spread that is a number and not below 0
+module _ (forward strike : Float) (F : Price forward) (K : Price strike) where
   abbrev logMoneyness : Float
   logMoneyness = negativeAbsLogMoneyness forward strike
 
-  abbrev spread : Float
-  spread = volatility ⊗ sqrt time
+  abbrev timeValue : Float → Float
+  timeValue s = sqrt forward ⊗ sqrt strike ⊗ normalisedBlack (logMoneyness ⊘ two) (logMoneyness ⊘ s) (s ⊘ two)
 
-  pub time-value-no-nan : isNan (sqrt forward ⊗ sqrt strike ⊗ normalisedBlack (logMoneyness ⊘ two) (logMoneyness ⊘ spread) (spread ⊘ two)) ≡ false
-  time-value-no-nan =
-      let r = sqrt-positive time (M .above) (M .held) in
+  pub time-value-at : (s : Float) → isNan s ≡ false → lt s plusZero ≡ false → isNan (timeValue s) ≡ false
+  time-value-at s n g =
       let x : Small 11 logMoneyness = log-moneyness-small forward strike F K in
       mul-no-nan binary64 (sqrt forward ⊗ sqrt strike) _ (roots-positive forward strike (F .above) (F .held) (K .above) (K .held))
-      (black-no-nan (logMoneyness ⊘ two) logMoneyness spread (x .is-finite) (x .bound)
-      (ap isNan (mul-swap binary64 volatility (sqrt time)) ∙ mul-no-nan binary64 (sqrt time) volatility r n) (not-below volatility (sqrt time) r n g))
+      (black-no-nan (logMoneyness ⊘ two) logMoneyness s (x .is-finite) (x .bound) n g)
+
+  -- the spread is a volatility, be it infinite, times the root of a finite time above 0
+  pub time-value-no-nan : (volatility time : Float) → isNan volatility ≡ false → lt volatility plusZero ≡ false → Price time
+      → isNan (timeValue (volatility ⊗ sqrt time)) ≡ false
+  time-value-no-nan volatility time n g M =
+      let r = sqrt-positive time (M .above) (M .held) in
+      time-value-at (volatility ⊗ sqrt time)
+      (ap isNan (mul-swap binary64 volatility (sqrt time)) ∙ mul-no-nan binary64 (sqrt time) volatility r n) (not-below volatility (sqrt time) r n g)

@@ -6,13 +6,13 @@ use Prim.Native.Nat.{ℕ, zero, suc, _+_, _-_, _*_, _/_, _%_, _^_, _≤_, _<_}
 use native.Mathlib.Nat.{le-trans, le-of-eq, le-of-lt, le-antisymm, lt-of-not-le, not-le-of-lt, lt-of-lt-of-le, min-eq-left}
 use native.Mathlib.Nat.{le-div-iff-mul-le, div-lt-iff-lt-mul, mul-one, mul-assoc, mul-comm, mul-right-comm, mul-pos, mul-le-mul-right, le-of-mul-le-mul-right}
 use native.Mathlib.Omega.{arith}
-use mathlib.Core.Bool.{Bool, true, false, not, _&&_, cond, Bool·beq, false≢true}
+use mathlib.Core.Bool.{Bool, true, false, not, _&&_, cond, false≢true}
 use borrow.Author.Tests.{ltb-true, lt-ltb, le-ltb}
 use lib.IntN.{ℤ, pos, negsuc}
 use lib.Dec.{T, leb, ltb, eqb, lt→ltb, lit≤, lit<}
 use lib.Pow.{pow-pos}
 use denote.Floats.{passes}
-use lib.Ieee.{Float, nan, inf, fin, binary64, up, down, minus, odd, round, sum, sub, neg, lt, fits, isNan, ofBits, toBits, nanBits}
+use lib.Ieee.{Float, nan, inf, fin, binary64, up, down, minus, odd, round, sum, neg, lt, fits, isNan, ofBits, toBits, nanBits}
 use lib.Ieee.Bits.{is-true, ofBits-fits, toBits-ofBits}
 use lib.Ieee.Fits.{and-i, and-l, and-r, eq→eqb, round-fits, add-fits}
 use lib.Ieee.Back.{round-whole}
@@ -32,6 +32,7 @@ use Rattle.arithmetic.specs.Laws.Representable.{representable}
 use Rattle.arithmetic.specs.Laws.Sums.{add-is, sum-same}
 use Rattle.arithmetic.specs.Laws.Compare.{finite-no-nan}
 use Rattle.arithmetic.specs.Laws.Bounds.{AtMost, round-at-most, round-at-least}
+use Rattle.arithmetic.specs.Laws.Sizes.{apart-by, sum-size, sub-is}
 use Rattle.arithmetic.specs.Laws.PowersOfTwo.{times-power}
 use Rattle.arithmetic.proofs.Trunc.{whole-part-is, whole-large}
 use Rattle.arithmetic.proofs.ExpGeneral.{product-at-most, half-away-round, biased-exponent, scaled, exp-is}
@@ -202,10 +203,6 @@ minus-shift : neg shift ≡ fin true 6755399441056767 (pos 0)
 unfolding neg ofBits
 minus-shift = refl
 
-sub-is : (x y : Float) → x ⊖ y ≡ x ⊕ neg y
-unfolding sub
-sub-is x y = refl
-
 k-is : (t : Float) (S : Shifted t) → t ⊖ shift ≡ round binary64 (k-sign (S .j)) (k-size (S .j)) 1
 k-is t S =
     let n = 6755399441055744 + S .j in
@@ -227,26 +224,6 @@ maxRest-fits = tt
 within-rest : (d : Float) → lt d maxRest ≡ true → lt (neg maxRest) d ≡ true → T (finite d) × (num d * 65536 < 32767 * den d)
 unfolding neg ofBits
 within-rest d h l = between-limits d 32767 (negsuc 15) h l
-
--- the size of the sum of a and b with the signs s and t
-abbrev apart-by : Bool → Bool → ℕ → ℕ → ℕ
-apart-by s t a b = cond (Bool·beq s t) (a + b) (a - b + (b - a))
-
-difference-size : (s t : Bool) (a b c : ℕ)
-    → (u : Bool) × (cond (ltb a b) (round binary64 t (b - a) c) (round binary64 (s && ltb b a) (a - b) c) ≡ round binary64 u (a - b + (b - a)) c)
-difference-size s t a b c = go (lt-or-le a b)
-  where
-    go : (a < b) ⊎ (b ≤ a)
-        → (u : Bool) × (cond (ltb a b) (round binary64 t (b - a) c) (round binary64 (s && ltb b a) (a - b) c) ≡ round binary64 u (a - b + (b - a)) c)
-    go (inl h) = (t, rw (lt-ltb a b h) (ap (λ (z : ℕ). round binary64 t z c) (omega arith)))
-    go (inr h) = (s && ltb b a, rw (le-ltb a b h) (ap (λ (z : ℕ). round binary64 (s && ltb b a) z c) (omega arith)))
-
-sum-size : (s t : Bool) (a b c : ℕ) → (u : Bool) × (sum binary64 s a t b c ≡ round binary64 u (apart-by s t a b) c)
-unfolding sum
-sum-size true true a b c = (true, refl)
-sum-size false false a b c = (false, refl)
-sum-size true false a b c = difference-size true false a b c
-sum-size false true a b c = difference-size false true a b c
 
 -- v less the whole number n of the sign u
 less-whole : (v k : Float) (u : Bool) (n : ℕ) → T (finite v) → HasValue k u n 1

@@ -7,7 +7,7 @@ use native.Mathlib.Omega.{arith}
 use borrow.Author.Tests.{ltb-false, le-leb, lt-leb}
 use lib.IntN.{pos, negsuc}
 use lib.Dec.{T, lit≤}
-use lib.Ieee.{up, down, Float, nan, inf, fin, binary64, minus, round, neg, sum, add, sub, lt, ne, fits, isNan, ofBits, toSigned}
+use lib.Ieee.{up, down, Float, nan, inf, fin, binary64, minus, round, sum, lt, ne, fits, isNan, ofBits, toSigned}
 use lib.Ieee.Back.{positive-back, negative-back}
 use lib.Ieee.Exact.{HasValue}
 use lib.Ieee.Scale.{finite}
@@ -19,8 +19,10 @@ use Rattle.arithmetic.specs.Internal.WholePart.{wholePart}
 use Rattle.arithmetic.specs.Laws.Signs.{is-nan}
 use Rattle.arithmetic.specs.Laws.Sums.{add-is}
 use Rattle.arithmetic.specs.Laws.Bounds.{AtMost, round-at-most}
+use Rattle.arithmetic.specs.Laws.Sizes.{sum-alike}
 use Rattle.arithmetic.specs.Laws.PowersOfTwo.{times-fraction}
-use Rattle.arithmetic.proofs.Trunc.{whole-part-is, trunc-is}
+use Rattle.arithmetic.specs.Laws.ExpBounds.{half-away-is, trunc-is}
+use Rattle.arithmetic.proofs.Trunc.{whole-part-is}
 use Rattle.arithmetic.proofs.Integers.{ofInt-pos, ofInt-negsuc, integer-fits, negative-fits}
 
 -- ---- between the thresholds x is finite, and its size is at most that of the threshold on its side
@@ -67,16 +69,6 @@ invLn2-value : HasValue invLn2 false (num invLn2) (den invLn2) × (0 < num invLn
 unfolding ofBits
 invLn2-value = ((refl, refl), lit≤ tt)
 
-half-away-is : (s : Bool) (x : Float) → halfAway s x ≡ add binary64 (x ⊗ invLn2) (fin s 1 (negsuc 0))
-unfolding halfAway sub neg ofBits
-half-away-is true x = refl
-half-away-is false x = refl
-
-sum-of-one-sign : (s : Bool) (a b c : ℕ) → sum binary64 s a s b c ≡ round binary64 s (a + b) c
-unfolding sum
-sum-of-one-sign true a b c = refl
-sum-of-one-sign false a b c = refl
-
 -- w, x / ln 2 and a half, has the sign s, and its whole part is at most `most s`
 pub record Bounded (s : Bool) (w : Float) : Type 0 where
   pub is-finite : T (finite w)
@@ -104,7 +96,7 @@ half-away-round s x p e =
     half-away-is s x
     ∙ add-is binary64 w (fin s 1 (negsuc 0)) p tt
     ∙ ap (λ (t : Bool). sum binary64 t (num w * 2) s (1 * 1 * den w) (den w * 2)) e
-    ∙ sum-of-one-sign s (num w * 2) (1 * 1 * den w) (den w * 2)
+    ∙ sum-alike s (num w * 2) (1 * 1 * den w) (den w * 2)
 
 module _ (x : Float) (p : T (finite x)) (h : num x * den (threshold (isSignMinus x)) ≤ num (threshold (isSignMinus x)) * den x) where
   abbrev s : Bool

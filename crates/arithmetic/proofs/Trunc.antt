@@ -21,7 +21,7 @@ use lib.Ieee.Fits.{down-pos}
 use lib.Ieee.Scale.{finite}
 use lib.Ieee.Positive.{num, den, den-pos}
 use lib.Ieee.Nearest.{div-same}
-use Rattle.arithmetic.specs.Basic.{isSignMinus, trunc}
+use Rattle.arithmetic.specs.Basic.{trunc}
 use Rattle.arithmetic.specs.Internal.WholePart.{wholePart}
 use Rattle.arithmetic.specs.Laws.Representable.{representable, round-self}
 use Rattle.arithmetic.specs.Laws.Numbers.{lt-or-le, pow-split, same-test, false-not}
@@ -29,6 +29,7 @@ use Rattle.arithmetic.specs.Laws.Patterns.{ofBits-is, read-more, bits-no
 use Rattle.arithmetic.specs.Laws.Times.{cross, has-finite, rescale}
 use Rattle.arithmetic.specs.Laws.Compare.{finite-no-nan}
 use Rattle.arithmetic.specs.Laws.Signs.{is-nan, sign-bit}
+use Rattle.arithmetic.specs.Laws.ExpBounds.{trunc-is}
 use Rattle.arithmetic.proofs.MulAddDecode.{value-subnormal, value-normal}
 
 -- ---- NaN
@@ -39,17 +40,11 @@ trunc-nan = refl
 pub trunc-of-nan : (x : Float) → ne x x ≡ true → x ≡ trunc x
 trunc-of-nan x h = let e = is-nan x h in e ∙ sym (ap trunc e ∙ trunc-nan)
 
--- ---- the whole part and `trunc` of a finite value, by its fraction
+-- ---- the whole part of a finite value, by its fraction
 pub whole-part-is : (w : Float) → T (finite w) → wholePart w ≡ min (num w / den w) (2 ^ 52)
 whole-part-is nan h = absurd h
 whole-part-is (inf s) h = absurd h
 whole-part-is (fin s m e) h = refl
-
-pub trunc-is : (w : Float) → T (finite w) → trunc w ≡ round binary64 (isSignMinus w) (num w / den w) 1
-unfolding trunc
-trunc-is nan h = absurd h
-trunc-is (inf s) h = absurd h
-trunc-is (fin s m e) h = refl
 
 whole-part-of : (x : Float) (s : Bool) (a : ℕ) → HasValue x s a (2 ^ 1074) → wholePart x ≡ min (a / 2 ^ 1074) (2 ^ 52)
 whole-part-of x s a h =

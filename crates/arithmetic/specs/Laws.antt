@@ -16,6 +16,8 @@ pub mod Extremes
 pub mod ScaledRatios
 pub mod Identities
 pub mod Bounds
+pub mod Sizes
+pub mod PowerBounds
 pub mod ScaledProducts
 -- The square root:
 pub mod WholeRoots
@@ -26,5 +28,7 @@ pub mod SqrtBounds
 -- What `exp` and `ln` rest on; quotients by roots:
 pub mod PowersOfTwo
 pub mod ExpFits
+pub mod ExpBounds
 pub mod Logarithm
+pub mod LnBounds
 pub mod Quotients

@@ -2,3 +2,7 @@
 pub mod Constants
 pub mod Table
 pub mod Moneyness
+pub mod MoneynessBounds
+pub mod AsymptoticExpansion
+pub mod SmallTExpansion
+pub mod NoNan

@@ -5,6 +5,7 @@ pub mod Demand
 pub mod Kinds
 pub mod Powers
 pub mod Price
+pub mod PriceNumbers
 pub mod PricePowers
 pub mod Quote
 pub mod Roots

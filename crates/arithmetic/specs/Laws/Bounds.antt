@@ -21,7 +21,7 @@ use Rattle.arithmetic.specs.Laws.Representable.{round-representable, gri
 use Rattle.arithmetic.specs.Laws.Identities.{round-neg}
 
 -- ---- an order of two values above zero, as one of fractions
-le-cross : (x y : Float) → T (finite x) → T (finite y) → isSignMinus x ≡ false → isSignMinus y ≡ false → T (le x y)
+pub le-cross : (x y : Float) → T (finite x) → T (finite y) → isSignMinus x ≡ false → isSignMinus y ≡ false → T (le x y)
     → num x * den y ≤ num y * den x
 unfolding le
 le-cross nan y p q s t h = absurd p
@@ -59,6 +59,12 @@ module _ (f : Format) (a c b d : ℕ) (C : 0 < c) (D : 0 < d) (A : grid f a c < 
       let l = 2 ^ low f in
       le-cross r z (has-finite r false (grid f a c) l R) (has-finite z false (grid f b d) l Z) (has-sign r false (grid f a c) l R)
       (has-sign z false (grid f b d) l Z) (round-mono f a c b d C D h)
+
+pub round-order : (f : Format) (s t : Bool) (a c b d : ℕ) → 0 < c → 0 < d → T (finite (round f s a c)) → T (finite (round f t b d)) → a * d ≤ b * c
+    → num (round f s a c) * den (round f t b d) ≤ num (round f t b d) * den (round f s a c)
+round-order f s t a c b d C D p q h =
+    rw (round-num f s a c, round-den f s a c, round-num f t b d, round-den f t b d)
+    (plain-order f a c b d C D (round-under f s a c p) (round-under f t b d q) h)
 
 -- v is a value of the format; rounding leaves it as it is
 module _ (f : Format) (s : Bool) (a c : ℕ) (v : Float) (C : 0 < c) (F : T (fits f v)) (p : T (finite v)) where

@@ -1,4 +1,4 @@
--- Quotients that are no NaN: of a number by one that is finite and above zero; and 2 / √x, which is finite and at least 2 ^ -1022 for every x
+-- A number times or over a value that is finite and above zero is no NaN; and 2 / √x, which is finite and at least 2 ^ -1022 for every x
 -- that is finite and above zero. Assumes nothing.
 use mathlib.Core.Path.{_≡_, refl, sym, ap, _∙_, subst}
 use Prim.Native.Nat.{ℕ, zero, suc, _*_, _^_, _≤_, _<_}
@@ -6,9 +6,9 @@ use native.Mathlib.Nat.{le-trans, le-of-eq, le-of-lt, le-of-suc-le-suc, one-mul,
 use native.Mathlib.Nat.{mul-le-mul-left, mul-le-mul-right, le-of-mul-le-mul-right}
 use mathlib.Core.Bool.{Bool, true, false, true≢false, false≢true}
 use lib.IntN.{pos}
-use lib.Dec.{T, lit≤, ltb}
+use lib.Dec.{T, lit≤, ltb, ltb→lt}
 use lib.Pow.{pow-pos, pow-mono}
-use lib.Ieee.{Float, nan, inf, fin, Format, binary64, prec, low, up, down, unlike, odd, units, round, div, le, isNan, fits, ofBits}
+use lib.Ieee.{Float, nan, inf, fin, Format, binary64, prec, low, up, down, unlike, odd, units, round, mul, div, le, isNan, fits, ofBits}
 use lib.Ieee.Fits.{div-fits}
 use lib.Ieee.Order.{round-mono}
 use lib.Ieee.Scale.{finite, overflow}
@@ -35,7 +35,7 @@ unfolding units isNan
 units-no-nan f s q k =
     in-both (λ (z : Float). isNan z ≡ false) (ltb (q * 2 ^ k) (overflow f)) (odd-no-nan (suc (prec f)) s q k (low f)) refl
 
-round-no-nan : (f : Format) (s : Bool) (a c : ℕ) → isNan (round f s a c) ≡ false
+pub round-no-nan : (f : Format) (s : Bool) (a c : ℕ) → isNan (round f s a c) ≡ false
 unfolding round
 round-no-nan f s a c = units-no-nan f s _ _
 
@@ -58,6 +58,16 @@ div-no-nan f (fin s m e) (fin t n d) h p =
     let is : div f (fin s m e) (fin t n d) ≡ round f (unlike s t) (m * up e * down d) (n * up d * down e) =
     div-is f (fin s m e) (fin t n d) tt tt ∙ rw (positive-zero (num (fin t n d)) (num-positive (fin t n d) p)) in
     ap isNan is ∙ round-no-nan f (unlike s t) (m * up e * down d) (n * up d * down e)
+
+-- ---- a value that is finite and above zero times a number
+pub mul-no-nan : (f : Format) (r v : Float) → T (positive r) → isNan v ≡ false → isNan (mul f r v) ≡ false
+unfolding mul isNan
+mul-no-nan f nan v p h = absurd p
+mul-no-nan f (inf t) v p h = absurd p
+mul-no-nan f (fin t n d) nan p h = absurd (true≢false h)
+mul-no-nan f (fin true n d) (inf s) p h = absurd p
+mul-no-nan f (fin false n d) (inf s) p h = rw (positive-zero n (ltb→lt 0 n p)) refl
+mul-no-nan f (fin t n d) (fin s m e) p h = round-no-nan f (unlike t s) (n * up d * (m * up e)) (down d * down e)
 
 -- ---- 2 / √x
 -- 2 ^ 1023, which no such quotient passes: √x is q * 2 ^ k units of 2 ^ -1074, with q from 2 ^ 52 to 2 ^ 53 and k below 1534

@@ -14,12 +14,13 @@ use lib.Ieee.Positive.{num, den, den-pos}
 use Rattle.arithmetic.specs.Operations.{_⊗_, plusZero, minPositive}
 use Rattle.arithmetic.specs.Basic.{isSignMinus}
 use Rattle.arithmetic.specs.Laws.Numbers.{lt-or-le}
-use Rattle.arithmetic.specs.Laws.Times.{Times, has-sign}
-use Rattle.arithmetic.specs.Laws.Rounding.{Normal, round-value, round-under}
+use Rattle.arithmetic.specs.Laws.Times.{Times}
+use Rattle.arithmetic.specs.Laws.Rounding.{Normal}
 use Rattle.arithmetic.specs.Laws.Compare.{lt-is, eq-is}
 use Rattle.arithmetic.specs.Laws.Products.{mul-is, mul-times}
 use Rattle.arithmetic.specs.Laws.Extremes.{times-refl}
 use Rattle.arithmetic.specs.Laws.Bounds.{AtMost, round-at-most}
+use Rattle.arithmetic.specs.Laws.Sizes.{round-minus}
 
 -- a factor of a finite product is finite
 factor-finite : (f : Format) (x y : Float) → T (finite (mul f x y)) → T (finite y)
@@ -72,9 +73,6 @@ zero-num v p h =
     ∙ eqb→eq a b (and-l (eqb a b) (Bool·beq (isSignMinus v) false || eqb a 0) (subst T (eq-is v plusZero p tt) h))
     ∙ zero-mul (den v)
 
-round-sign : (s : Bool) (a c : ℕ) → T (finite (round binary64 s a c)) → isSignMinus (round binary64 s a c) ≡ s
-round-sign s a c p = has-sign (round binary64 s a c) s _ _ (round-value binary64 s a c (round-under binary64 s a c p))
-
 -- ---- the product
 module _ (k : ℕ) (x x' y : Float) (h : Times k x x') (p : T (finite (x ⊗ y))) (p' : T (finite (x' ⊗ y))) where
   abbrev sign : Bool
@@ -89,12 +87,9 @@ module _ (k : ℕ) (x x' y : Float) (h : Times k x x') (p : T (finite (x ⊗ y))
   is' : x' ⊗ y ≡ round binary64 sign (num x' * num y) (den x' * den y)
   is' = mul-is binary64 x' y (h .finite-r) finite-y ∙ rw (h .sign)
 
-  abbrev rounds-finite : Float → Type 0
-  rounds-finite z = T (finite z)
-
   normal-product : T (lt minPositive (x ⊗ y)) → Times k (x ⊗ y) (x' ⊗ y)
   normal-product l =
-      let N = above-normal sign (num x * num y) (den x * den y) (mul-pos (den-pos x) (den-pos y)) (subst rounds-finite is p)
+      let N = above-normal sign (num x * num y) (den x * den y) (mul-pos (den-pos x) (den-pos y)) (subst (λ (z : Float). T (finite z)) is p)
       (subst (λ (z : Float). T (lt minPositive z)) is l) in
       subst (λ (j : ℕ). Times j (x ⊗ y) (x' ⊗ y)) (add-zero k) (mul-times binary64 k 0 x y x' y h (times-refl y finite-y) (inl N) p')
 
@@ -102,7 +97,7 @@ module _ (k : ℕ) (x x' y : Float) (h : Times k x x') (p : T (finite (x ⊗ y))
   zero-product e e' = record {
     finite-l = p;
     finite-r = p';
-    sign = ap isSignMinus is' ∙ round-sign sign _ _ (subst rounds-finite is' p') ∙ sym (ap isSignMinus is ∙ round-sign sign _ _ (subst rounds-finite is p));
+    sign = ap isSignMinus is' ∙ round-minus sign _ _ ∙ sym (ap isSignMinus is ∙ round-minus sign _ _);
     value = rw (zero-num (x ⊗ y) p e, zero-num (x' ⊗ y) p' e', zero-mul (den (x ⊗ y)), zero-mul (2 ^ k), zero-mul (den (x' ⊗ y)));
   }
 

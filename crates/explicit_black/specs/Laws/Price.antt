@@ -1,6 +1,6 @@
 -- The law of 4 ^ n for prices (REQUIREMENTS 14.1): where forward and strike are exactly 4 ^ n times another's, with one side, volatility and time, both
 -- are refused with one number, or the price is exactly 4 ^ n times the other's. Assumes nothing.
-use mathlib.Core.Path.{_≡_, sym, ap, _∙_, subst}
+use mathlib.Core.Path.{_≡_, refl, sym, ap, _∙_, subst}
 use mathlib.Core.Logic.{_⊎_, inl, inr}
 use Prim.Native.Nat.{ℕ, suc, _+_, _*_, _^_}
 use native.Mathlib.Nat.{mul-one, mul-right-comm}
@@ -106,12 +106,13 @@ times-down n x y h = record {
 }
 
 -- ---- a reply that is a price
-price-is : (side : ℕ) (v f k t p : Float) → blackPrice side v f k t ≡ price p → priceOf side f k (v ⊗ sqrt t) ≡ p
+pub price-is : (side : ℕ) (v f k t p : Float) → blackPrice side v f k t ≡ price p
+    → (eqb (priceRefusal side v f k t) 0 ≡ true) × (priceOf side f k (v ⊗ sqrt t) ≡ p)
 unfolding blackPrice
 price-is side v f k t p e = go (eqb (priceRefusal side v f k t) 0) _ _ e
   where
-    go : (b : Bool) (q : Float) (m : ℕ) → cond b (price q) (refusal m 0) ≡ price p → q ≡ p
-    go true q m e = cc
+    go : (b : Bool) (q : Float) (m : ℕ) → cond b (price q) (refusal m 0) ≡ price p → (b ≡ true) × (q ≡ p)
+    go true q m e = (refl, cc)
     go false q m e = never (cc)
 
 tests-alike : (side : ℕ) (v f k t f' k' : Float) → BoundedRatio f k → BoundedRatio f' k' → priceRefusal side v f' k' t ≡ priceRefusal side v f k t
@@ -164,8 +165,8 @@ module _ (n : ℤ) (side v f k t f' k' : ℕ) (h : ComparablePair (bits f) (bits
       → blackPrice side (bits v) (bits f') (bits k') (bits t) ≡ price p'
       → BothAboveOrZero (timeValue (bits f) (bits k) s) (timeValue (bits f') (bits k') s) → BothAboveOrZero p p' → Exactly n p p'
   price-scales p p' r r' q w =
-      let i = price-is side (bits v) (bits f) (bits k) (bits t) p r in
-      let i' = price-is side (bits v) (bits f') (bits k') (bits t) p' r' in
+      let i = price-is side (bits v) (bits f) (bits k) (bits t) p r .1 in
+      let i' = price-is side (bits v) (bits f') (bits k') (bits t) p' r' .1 in
       rw (← i, ← i')
       (price-exactly n side (bits f) (bits k) (bits f') (bits k') s (comparable-ratio f k h) (comparable-ratio f' k' h') e g q
       (rw (← i) at (w .first-finite)) (rw (← i') at (w .second-finite)))

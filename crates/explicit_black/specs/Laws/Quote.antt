@@ -66,7 +66,7 @@ abbrev pub FiguresAreNumbers : Reply → Type 0
 FiguresAreNumbers (answer v w count) = (isNan v ≡ false) × T (fits binary64 v) × (isNan w ≡ false) × T (fits binary64 w)
 FiguresAreNumbers (refusal m count) = Unit
 
-time-positive : (t : Float) → isFinite t ≡ true → lt t plusZero ≡ false → eq t plusZero ≡ false → T (positive t)
+pub time-positive : (t : Float) → isFinite t ≡ true → lt t plusZero ≡ false → eq t plusZero ≡ false → T (positive t)
 unfolding lt eq ofBits
 time-positive nan p l n = absurd (false≢true p)
 time-positive (inf s) p l n = absurd (false≢true p)
@@ -150,7 +150,30 @@ normalised-numbers x p =
     in-both (λ (c : Counted Outcome). FiguresAreNumbers (reply one c)) (isFinite x && isFinite p)
     (kind-numbers one (fromNormalisedPrice x p) refl refl tt (normalised-kind x p)) tt
 
+-- ---- the domain of demand 2 (REQUIREMENTS 3.4): figures that pass tests 1 to 4
+pub record Domain (side : ℕ) (price forward strike time : Float) : Type 0 where
+  pub call-or-put : side ≤ 1
+  pub price-finite : isFinite price ≡ true
+  pub forward-finite : isFinite forward ≡ true
+  pub forward-above : lt plusZero forward ≡ true
+  pub strike-finite : isFinite strike ≡ true
+  pub strike-above : lt plusZero strike ≡ true
+  pub time-finite : isFinite time ≡ true
+  pub time-not-below : lt time plusZero ≡ false
+
+pub no-side : (side : ℕ) → 1 < side → (eqb side 0 || eqb side 1) ≡ false
+no-side side h = rw (ne-eqb side 0 (λ (e : side ≡ 0). omega arith), ne-eqb side 1 (λ (e : side ≡ 1). omega arith))
+
+pub a-side : (side : ℕ) → side ≤ 1 → (eqb side 0 || eqb side 1) ≡ true
+a-side zero h = refl
+a-side (suc zero) h = refl
+a-side (suc (suc n)) h = absurd (omega arith)
+
 -- ---- of the quote entry
+and-left : (a b : Bool) → (a && b) ≡ true → a ≡ true
+and-left true b e = refl
+and-left false b e = absurd (false≢true e)
+
 and-right : (a b : Bool) → (a && b) ≡ true → b ≡ true
 and-right true b e = e
 and-right false b e = absurd (false≢true e)
@@ -171,19 +194,36 @@ module _ (side : ℕ) (p f k t : Float) where
       go true true true true = lit≤ tt
       go true true true false = lit≤ tt
 
-  -- a time that passes tests 2 and 4
-  passed-time : firstRefusal side p f k t ≡ 0 → (isFinite t ≡ true) × (lt t plusZero ≡ false)
+  pub passed : firstRefusal side p f k t ≡ 0 → Domain side p f k t
   unfolding firstRefusal
-  passed-time e =
-      let q = go (eqb side 0 || eqb side 1) (isFinite p && isFinite f && isFinite k && isFinite t) (lt plusZero f && lt plusZero k) (lt t plusZero) e in
-      (and-right (isFinite p && isFinite f && isFinite k) (isFinite t) (q .0), q .1)
+  passed e =
+      let prices = lt plusZero f && lt plusZero k in
+      let figures = isFinite p && isFinite f && isFinite k in
+      let q = go (eqb side 0 || eqb side 1) (figures && isFinite t) prices (lt t plusZero) e in
+      let h : figures ≡ true = and-left figures (isFinite t) (q .1) in
+      let g : (isFinite p && isFinite f) ≡ true = and-left (isFinite p && isFinite f) (isFinite k) h in
+      record {
+        call-or-put = side-le side (q .0);
+        price-finite = and-left (isFinite p) (isFinite f) g;
+        forward-finite = and-right (isFinite p) (isFinite f) g;
+        forward-above = and-left (lt plusZero f) (lt plusZero k) (q .2);
+        strike-finite = and-right (isFinite p && isFinite f) (isFinite k) h;
+        strike-above = and-right (lt plusZero f) (lt plusZero k) (q .2);
+        time-finite = and-right figures (isFinite t) (q .1);
+        time-not-below = q .3;
+      }
     where
-      go : (a b c d : Bool) → firstOf a b c d ≡ 0 → (b ≡ true) × (d ≡ false)
+      go : (a b c d : Bool) → firstOf a b c d ≡ 0 → (a ≡ true) × (b ≡ true) × (c ≡ true) × (d ≡ false)
       go false b c d e = absurd (omega arith)
       go true false c d e = absurd (omega arith)
       go true true false d e = absurd (omega arith)
       go true true true true e = absurd (omega arith)
-      go true true true false e = (refl, refl)
+      go true true true false e = (refl, refl, refl, refl)
+
+      side-le : (n : ℕ) → (eqb n 0 || eqb n 1) ≡ true → n ≤ 1
+      side-le zero e = lit≤ tt
+      side-le (suc zero) e = lit≤ tt
+      side-le (suc (suc n)) e = absurd (true≢false (sym e ∙ no-side (suc (suc n)) (omega arith)))
 
   -- what holds of outcomes of each kind, and of the refusals of tests 1 to 4, holds of every quote's outcome
   by-first-refusal : (P : Counted Outcome → Type 0) → (firstRefusal side p f k t ≡ 0 → (c : Counted Outcome) → Kind c → P c)
@@ -210,27 +250,11 @@ module _ (side : ℕ) (p f k t : Float) where
 
   pub input-numbers : T (fits binary64 t) → FiguresAreNumbers (impliedBlackVolatilityInput side p f k t)
   unfolding impliedBlackVolatilityInput
-  input-numbers F = by-first-refusal (λ c. FiguresAreNumbers (reply t c)) (λ e c. let q = passed-time e in kind-numbers t c (q .0) (q .1) F) (λ m l h. tt)
+  input-numbers F =
+      by-first-refusal (λ c. FiguresAreNumbers (reply t c)) (λ e c. let q = passed e in kind-numbers t c (q .time-finite) (q .time-not-below) F)
+      (λ m l h. tt)
 
--- ---- a refusal on the domain of demand 2 (REQUIREMENTS 3.4) is one of 5 to 9
-pub record Domain (side : ℕ) (price forward strike time : Float) : Type 0 where
-  pub call-or-put : side ≤ 1
-  pub price-finite : isFinite price ≡ true
-  pub forward-finite : isFinite forward ≡ true
-  pub forward-above : lt plusZero forward ≡ true
-  pub strike-finite : isFinite strike ≡ true
-  pub strike-above : lt plusZero strike ≡ true
-  pub time-finite : isFinite time ≡ true
-  pub time-not-below : lt time plusZero ≡ false
-
-pub no-side : (side : ℕ) → 1 < side → (eqb side 0 || eqb side 1) ≡ false
-no-side side h = rw (ne-eqb side 0 (λ (e : side ≡ 0). omega arith), ne-eqb side 1 (λ (e : side ≡ 1). omega arith))
-
-pub a-side : (side : ℕ) → side ≤ 1 → (eqb side 0 || eqb side 1) ≡ true
-a-side zero h = refl
-a-side (suc zero) h = refl
-a-side (suc (suc n)) h = absurd (omega arith)
-
+-- ---- a refusal on the domain is one of 5 to 9
 domain-passes : (side : ℕ) (p f k t : Float) → Domain side p f k t → firstRefusal side p f k t ≡ 0
 unfolding firstRefusal
 domain-passes side p f k t h =

@@ -1,0 +1,393 @@
+-- `exp` of a number with the sign - is 4 at most, and of one of size 256 at most it is 2 ^ 400 at most. With n = |k|, |x| / ln 2 lies from n - 1 to
+-- n + 1 / 2, so x differs from k ln 2 by 45 / 64 at most, and the divisor 2 - c is 1 at least. Sizes are in 64ths. Assumes nothing.
+use mathlib.Core.Path.{_≡_, refl, sym, ap, _∙_, subst}
+use mathlib.Core.Logic.{inl, inr}
+use mathlib.Core.Bool.{Bool, true, false, not, true≢false}
+use Prim.Native.Nat.{ℕ, zero, suc, _+_, _-_, _*_, _/_, _%_, _^_, _≤_, _<_, min, zero-le}
+use native.Mathlib.Nat.{le-mul-of-pos-right, le-of-mul-le-mul-right, mul-le-mul, le-trans, le-of-eq, lt-of-le-of-lt, mul-one, mul-pos, mul-le-mul-right}
+use native.Mathlib.Nat.{mul-le-mul-left, div-add-mod', mod-lt, mul-div-cancel}
+use native.Mathlib.Omega.{arith}
+use borrow.Author.Tests.{le-ltb, ltb-false}
+use lib.IntN.{ℤ, pos, negsuc, negℤ}
+use lib.Dec.{T, lit≤}
+use lib.Pow.{pow-pos, pow-mono, pow-add}
+use lib.Ieee.{Float, nan, inf, fin, binary64, up, down, round, sum, add, sub, neg, lt, isNan, toSigned, ofBits}
+use lib.Ieee.Exact.{HasValue}
+use lib.Ieee.Scale.{finite, round-same}
+use lib.Ieee.Positive.{num, den, den-pos, through}
+use lib.Ieee.Fits.{down-pos}
+use Rattle.arithmetic.specs.Operations.{_⊕_, _⊖_, _⊗_, plusZero, half, one, two}
+use Rattle.arithmetic.specs.Basic.{isSignMinus, trunc}
+use Rattle.arithmetic.specs.Exp.{ln2Hi, ln2Lo, invLn2, oThreshold, uThreshold, P1, P2, P3, P4, P5, halfAway, reduced, scaleB, exp}
+use Rattle.arithmetic.specs.Laws.Numbers.{lt-or-le}
+use Rattle.arithmetic.specs.Laws.Compare.{finite-no-nan}
+use Rattle.arithmetic.specs.Laws.Times.{cross, has-finite, has-sign, neg-finite, neg-sign, neg-num, neg-den}
+use Rattle.arithmetic.specs.Laws.Sums.{add-is}
+use Rattle.arithmetic.specs.Laws.PowersOfTwo.{times-fraction}
+use Rattle.arithmetic.specs.Laws.Choices.{by-test}
+use Rattle.arithmetic.specs.Laws.PowerBounds.{zero-small, Small, size-small, small-round}
+use Rattle.arithmetic.specs.Laws.Sizes.{short, grain, grain-held, round-upper, round-lower, apart-by, sum-size, sum-alike, sub-is, Size, size-round}
+use Rattle.arithmetic.specs.Laws.Sizes.{size-mul, size-add, size-sub, size-widen, size-neg, size-div, round-minus}
+
+-- ---- the constants
+hi-value : HasValue ln2Hi false 2977044471 4294967296
+unfolding ofBits
+hi-value = (refl, refl)
+
+lo-value : HasValue ln2Lo false 3691024475790907 (2 ^ 84)
+unfolding ofBits
+lo-value = (refl, refl)
+
+inv-value : HasValue invLn2 false 3248660424278399 2251799813685248
+unfolding ofBits
+inv-value = (refl, refl)
+
+constants : Size 93 invLn2 × Size 32 half × Size 64 one × Size 128 two × Size 11 P1 × Size 1 P2 × Size 1 P3 × Size 1 P4 × Size 1 P5
+unfolding ofBits
+constants = (
+  record { is-finite = tt; bound = lit≤ tt },
+  record { is-finite = tt; bound = lit≤ tt },
+  record { is-finite = tt; bound = lit≤ tt },
+  record { is-finite = tt; bound = lit≤ tt },
+  record { is-finite = tt; bound = lit≤ tt },
+  record { is-finite = tt; bound = lit≤ tt },
+  record { is-finite = tt; bound = lit≤ tt },
+  record { is-finite = tt; bound = lit≤ tt },
+  record { is-finite = tt; bound = lit≤ tt },
+)
+
+-- ---- x / ln 2, and that and a half
+pub half-away-is : (s : Bool) (x : Float) → halfAway s x ≡ add binary64 (x ⊗ invLn2) (fin s 1 (negsuc 0))
+unfolding halfAway sub neg ofBits
+half-away-is true x = refl
+half-away-is false x = refl
+
+half-away-size : (x : Float) (a : ℕ) → Size a (x ⊗ invLn2) → a ≤ 95232 → Size (a + 32) (halfAway (isSignMinus x) x)
+half-away-size x a g l =
+    subst (Size (a + 32)) (sym (half-away-is (isSignMinus x) x))
+    (size-add {b = 32} g (record { is-finite = tt; bound = lit≤ {m = 64} {n = 64} tt }) (short (omega arith)))
+
+module _ (x : Float) (p : T (finite x)) (k : T (finite (x ⊗ invLn2))) where
+  abbrev s : Bool
+  s = isSignMinus x
+
+  abbrev v : Float
+  v = x ⊗ invLn2
+
+  abbrev w : Float
+  w = halfAway s x
+
+  v-is : v ≡ round binary64 s (num x * 3248660424278399) (den x * 2251799813685248)
+  v-is = times-fraction x invLn2 3248660424278399 2251799813685248 p (lit≤ tt) (lit≤ tt) inv-value
+
+  w-is : w ≡ round binary64 s (num v * 2 + 1 * 1 * den v) (den v * 2)
+  w-is =
+      half-away-is s x
+      ∙ add-is binary64 v (fin s 1 (negsuc 0)) k tt
+      ∙ ap (λ (t : Bool). sum binary64 t (num v * 2) s (1 * 1 * den v) (den v * 2)) (ap isSignMinus v-is ∙ round-minus s _ _)
+      ∙ sum-alike s (num v * 2) (1 * 1 * den v) (den v * 2)
+
+-- ---- how far n is from |x| / ln 2
+module _ (nx dx n : ℕ) (s : Bool) (v w : Float) (D : 0 < dx) (v-is : v ≡ round binary64 s (nx * 3248660424278399) (dx * 2251799813685248))
+    (w-is : w ≡ round binary64 s (num v * 2 + 1 * 1 * den v) (den v * 2))
+    (v-finite : T (finite v)) (w-finite : T (finite w)) (lower : n * den w ≤ num w) (upper : num w < (n + 1) * den w) (few : n ≤ 2000) where
+  upper-of : (r : Float) (a c p j : ℕ) → r ≡ round binary64 s a c → 0 < c → p ≤ 200000 → j ≤ 1074 → a * 2 ^ j ≤ p * c → num r * 2 ^ j ≤ p * den r
+  upper-of r a c p j e C P J h = subst (λ (z : Float). num z * 2 ^ j ≤ p * den z) (sym e)
+      (round-upper s a c p (2 ^ j) C (pow-pos j) (grain-held p j (short P) J) h .2)
+
+  lower-of : (r : Float) (a c p j : ℕ) → r ≡ round binary64 s a c → 0 < c → p ≤ 200000 → j ≤ 1074 → T (finite r) → p * c ≤ a * 2 ^ j → p * den r ≤ num r * 2 ^ j
+  lower-of r a c p j e C P J t h =
+      subst (λ (z : Float). p * den z ≤ num z * 2 ^ j) (sym e)
+      (round-lower s a c p (2 ^ j) C (pow-pos j) (grain-held p j (short P) J) (subst (λ (z : Float). T (finite z)) e t) h)
+
+  not-over : nx * 6497320848556798 ≤ (2 * n + 1) * 2251799813685248 * dx
+  not-over = elim (lt-or-le ((2 * n + 1) * 2251799813685248 * dx) (nx * 6497320848556798)) [
+    | inl h ↦
+        let a : (2 * n + 1) * den v ≤ num v * 2 = lower-of v (nx * 3248660424278399) (dx * 2251799813685248) (2 * n + 1) 1 v-is (mul-pos D (pow-pos 51))
+        (omega arith) (lit≤ tt) v-finite (omega arith) in
+        let b : (n + 1) * den w ≤ num w * 1 =
+        lower-of w (num v * 2 + 1 * 1 * den v) (den v * 2) (n + 1) 0 w-is (mul-pos (den-pos v) (pow-pos 1)) (omega arith) zero-le w-finite (omega arith) in
+        absurd (omega arith)
+    | inr h ↦ h
+  ]
+
+  not-under : (m : ℕ) → n ≡ suc m → m * 2251799813685248 * dx ≤ nx * 3248660424278399
+  not-under m e = elim (lt-or-le (nx * 3248660424278399) (m * 2251799813685248 * dx)) [
+    | inl h ↦
+        let a : num v * 1 ≤ m * den v =
+        upper-of v (nx * 3248660424278399) (dx * 2251799813685248) m 0 v-is (mul-pos D (pow-pos 51)) (omega arith) (lit≤ tt) (omega arith) in
+        let b : num w * 2 ≤ (2 * m + 1) * den w =
+        upper-of w (num v * 2 + 1 * 1 * den v) (den v * 2) (2 * m + 1) 1 w-is (mul-pos (den-pos v) (pow-pos 1)) (omega arith) (lit≤ tt) (omega arith) in
+        let c : suc m * den w ≤ num w = subst (λ (z : ℕ). z * den w ≤ num w) e lower in
+        let d = den-pos w in
+        absurd (omega arith)
+    | inr h ↦ h
+  ]
+
+  -- so x differs from n H by 45 / 64 at most; 274877906944 is 2 ^ 38
+  above-by : nx * 274877906944 ≤ (n * 190530846144 + 193273528320) * dx
+  above-by = through nx ((2 * n + 1) * 2251799813685248) (n * 190530846144 + 193273528320) dx 6497320848556798 274877906944 (lit≤ tt) not-over (omega arith)
+
+  below-by : n * 190530846144 * dx ≤ nx * 274877906944 + 193273528320 * dx
+  below-by = go n refl
+    where
+      go : (k : ℕ) → n ≡ k → k * 190530846144 * dx ≤ nx * 274877906944 + 193273528320 * dx
+      go zero e = omega arith
+      go (suc m) e =
+          let a : m * 190530846144 * dx ≤ nx * 274877906944 =
+          through (m * 190530846144) (m * 2251799813685248) nx 274877906944 3248660424278399 dx (lit≤ tt) (omega arith) (not-under m e) in
+          omega arith
+
+-- ---- k, and its products with constants
+abbrev k-of : Bool → ℕ → Float
+k-of s n = round binary64 s n 1
+
+k-value : (s : Bool) (n : ℕ) → n ≤ 2000 → HasValue (k-of s n) s n 1
+k-value s n h = grain s n 0 (short (omega arith)) zero-le
+
+k-times : (s : Bool) (n : ℕ) → n ≤ 2000 → (p : Float) (b d : ℕ) → 0 < b → 0 < d → HasValue p false b d → k-of s n ⊗ p ≡ round binary64 s (n * b) d
+k-times s n h p b d B D v =
+    let k = k-of s n in
+    let K = k-value s n h in
+    times-fraction k p b d (has-finite k s n 1 K) B D v
+    ∙ ap (λ (t : Bool). round binary64 t (num k * b) (den k * d)) (has-sign k s n 1 K)
+    ∙ round-same binary64 s (num k * b) (den k * d) (n * b) d (mul-pos (den-pos k) D) D (go (num k) (den k) (cross k s n 1 K))
+  where
+    go : (a l : ℕ) → a * 1 ≡ n * l → a * b * d ≡ n * b * (l * d)
+    go a l e = ap (λ (z : ℕ). z * b * d) (sym (mul-one a) ∙ e) ∙ (let r : n * l * b * d ≡ n * b * (l * d) = omega arith in r)
+
+high-product : (s : Bool) (n : ℕ) → n ≤ 2000 → HasValue (k-of s n ⊗ ln2Hi) s (n * 2977044471) 4294967296
+high-product s n h =
+    subst (λ (z : Float). HasValue z s (n * 2977044471) 4294967296) (sym (k-times s n h ln2Hi 2977044471 4294967296 (lit≤ tt) (lit≤ tt) hi-value))
+    (grain s (n * 2977044471) 32 (lt-of-le-of-lt (mul-le-mul-right 2977044471 h) (lit≤ tt)) (lit≤ tt))
+
+low-product : (s : Bool) (n : ℕ) → n ≤ 2000 → Size 1 (k-of s n ⊗ ln2Lo)
+low-product s n h =
+    subst (Size 1) (sym (k-times s n h ln2Lo 3691024475790907 (2 ^ 84) (lit≤ tt) (pow-pos 84) lo-value))
+    (size-round s (n * 3691024475790907) (2 ^ 84) 1 (pow-pos 84) (short (lit≤ tt))
+    (le-trans (mul-le-mul-right 64 (mul-le-mul-right 3691024475790907 h)) (lit≤ tt)))
+
+-- ---- x less k H
+sum-apart : (s : Bool) (a b c : ℕ) → (u : Bool) × (sum binary64 s a (not s) b c ≡ round binary64 u (a - b + (b - a)) c)
+sum-apart true a b c = sum-size true false a b c
+sum-apart false a b c = sum-size false true a b c
+
+head-size : (x : Float) (n : ℕ) → T (finite x) → n ≤ 2000 → num x * 274877906944 ≤ (n * 190530846144 + 193273528320) * den x
+    → n * 190530846144 * den x ≤ num x * 274877906944 + 193273528320 * den x → Size 45 (x ⊖ k-of (isSignMinus x) n ⊗ ln2Hi)
+head-size x n p few h g =
+    let s = isSignMinus x in
+    let kh = k-of s n ⊗ ln2Hi in
+    let K = high-product s n few in
+    let q : T (finite kh) = has-finite kh s (n * 2977044471) 4294967296 K in
+    let is : x ⊖ kh ≡ sum binary64 s (num x * den kh) (not s) (num kh * den x) (den x * den kh) =
+    sub-is x kh
+    ∙ add-is binary64 x (neg kh) p (neg-finite kh q)
+    ∙ rw (neg-sign kh q, neg-num kh, neg-den kh, has-sign kh s (n * 2977044471) 4294967296 K) refl in
+    let z = sum-apart s (num x * den kh) (num kh * den x) (den x * den kh) in
+    subst (Size 45) (sym (is ∙ z .1))
+    (size-round (z .0) (num x * den kh - num kh * den x + (num kh * den x - num x * den kh)) (den x * den kh) 45 (mul-pos (den-pos x) (den-pos kh))
+    (short (lit≤ tt))
+    (go (num x) (den x) (num kh) (den kh) (ap (λ (z : ℕ). z * den x) (cross kh s (n * 2977044471) 4294967296 K)) (mul-le-mul-right (den kh) h)
+    (mul-le-mul-right (den kh) g)))
+  where
+    go : (a d b e : ℕ) → b * 4294967296 * d ≡ n * 2977044471 * e * d → a * 274877906944 * e ≤ (n * 190530846144 + 193273528320) * d * e
+        → n * 190530846144 * d * e ≤ (a * 274877906944 + 193273528320 * d) * e → (a * e - b * d + (b * d - a * e)) * 64 ≤ 45 * (d * e)
+    go a d b e q h g = omega arith
+
+-- ---- 2 less what is 1 at most in size is 1 at least
+two-parts : (num two ≡ 2) × (den two ≡ 1) × (isSignMinus two ≡ false)
+unfolding ofBits
+two-parts = (refl, refl, refl)
+
+pub two-plus : (c : Float) → Size 64 c → T (finite (two ⊕ c)) × (den (two ⊕ c) ≤ num (two ⊕ c))
+two-plus c h =
+    let t = isSignMinus c in
+    let p : T (finite (two ⊕ c)) = size-add (constants .3) h (short (lit≤ tt)) .is-finite in
+    let z = sum-size false t (2 * den c) (num c * 1) (1 * den c) in
+    let is : two ⊕ c ≡ round binary64 (z .0) (apart-by false t (2 * den c) (num c * 1)) (1 * den c) =
+    add-is binary64 two c (constants .3 .is-finite) (h .is-finite) ∙ rw (two-parts .0, two-parts .1, two-parts .2) (z .1) in
+    let l = round-lower (z .0) (apart-by false t (2 * den c) (num c * 1)) (1 * den c) 1 1 (mul-pos (pow-pos 0) (den-pos c)) (pow-pos 0)
+    (grain-held 1 0 (lit≤ tt) zero-le)
+    (subst (λ (z : Float). T (finite z)) is p) (go t (num c) (den c) (h .bound)) in
+    (p, subst (λ (z : Float). den z ≤ num z) (sym is) (flat _ _ l))
+  where
+    go : (t : Bool) (n d : ℕ) → n * 64 ≤ 64 * d → 1 * (1 * d) ≤ apart-by false t (2 * d) (n * 1) * 1
+    go true n d h = omega arith
+    go false n d h = omega arith
+
+    flat : (n d : ℕ) → 1 * d ≤ n * 1 → d ≤ n
+    flat n d h = omega arith
+
+two-less : (c : Float) → Size 64 c → T (finite (two ⊖ c)) × (den (two ⊖ c) ≤ num (two ⊖ c))
+two-less c h = subst (λ (z : Float). T (finite z) × (den z ≤ num z)) (sym (sub-is two c)) (two-plus (neg c) (size-neg h))
+
+-- ---- y
+curve-size : (r : Float) → Size 46 r → let q = r ⊗ r in Size 53 (r ⊖ q ⊗ (P1 ⊕ q ⊗ (P2 ⊕ q ⊗ (P3 ⊕ q ⊗ (P4 ⊕ q ⊗ P5)))))
+curve-size r h =
+    let (a, b, c, d, p1, p2, p3, p4, p5) = constants in
+    let q : Size 34 (r ⊗ r) = size-mul 34 h h (lit≤ tt) (short (lit≤ tt)) in
+    let t4 : Size 2 _ = size-add p4 (size-mul 1 q p5 (lit≤ tt) (short (lit≤ tt))) (short (lit≤ tt)) in
+    let t3 : Size 3 _ = size-add p3 (size-mul 2 q t4 (lit≤ tt) (short (lit≤ tt))) (short (lit≤ tt)) in
+    let t2 : Size 3 _ = size-add p2 (size-mul 2 q t3 (lit≤ tt) (short (lit≤ tt))) (short (lit≤ tt)) in
+    let t1 : Size 13 _ = size-add p1 (size-mul 2 q t2 (lit≤ tt) (short (lit≤ tt))) (short (lit≤ tt)) in
+    size-sub h (size-mul 7 q t1 (lit≤ tt) (short (lit≤ tt))) (short (lit≤ tt))
+
+reduced-size : (x k : Float) → Size 45 (x ⊖ k ⊗ ln2Hi) → Size 1 (k ⊗ ln2Lo) → Size 149 (reduced x k)
+unfolding reduced
+reduced-size x k H L =
+    let r : Size 46 _ = size-sub H L (short (lit≤ tt)) in
+    let c = curve-size _ r in
+    let t = two-less _ (size-widen 64 c (lit≤ tt)) in
+    let f = size-div _ (size-mul 39 r c (lit≤ tt) (short (lit≤ tt))) (short (lit≤ tt)) (t .0) (t .1) in
+    size-sub (constants .2) (size-sub (size-sub L f (short (lit≤ tt))) H (short (lit≤ tt))) (short (lit≤ tt))
+
+-- ---- y times 2 ^ k
+pub trunc-is : (w : Float) → T (finite w) → trunc w ≡ round binary64 (isSignMinus w) (num w / den w) 1
+unfolding trunc
+trunc-is nan p = absurd p
+trunc-is (inf s) p = absurd p
+trunc-is (fin s m e) p = refl
+
+scale-small : (j n : ℕ) (y : Float) (z : ℤ) → Small j y → up z ≤ 2 ^ n → j + n ≤ 1023 → Small (j + n) (scaleB y z)
+unfolding scaleB
+scale-small j n nan z h l K = absurd (h .is-finite)
+scale-small j n (inf s) z h l K = absurd (h .is-finite)
+scale-small j n (fin s m e) z h l K =
+    small-round s (m * up e * up z) (down e * down z) (j + n) (mul-pos (down-pos e) (down-pos z)) K
+    (le-trans (mul-le-mul (h .bound) l)
+    (le-trans (le-of-eq (swap (2 ^ j) (down e) (2 ^ n) ∙ ap (λ (b : ℕ). b * down e) (sym (pow-add 2 j n))))
+    (mul-le-mul-left (2 ^ (j + n)) (le-mul-of-pos-right (down e) (down-pos z))))) .0
+  where
+    swap : (a b c : ℕ) → a * b * c ≡ a * c * b
+    swap a b c = omega arith
+
+up-minus : (j : ℕ) → up (negℤ (pos j)) ≤ 2 ^ 0
+up-minus zero = lit≤ tt
+up-minus (suc j) = lit≤ tt
+
+-- of a k below 0, and of any
+power-minus : (k : Float) → T (finite k) → isSignMinus k ≡ true → up (toSigned 63 k) ≤ 2 ^ 0
+unfolding toSigned
+power-minus nan p s = absurd p
+power-minus (inf t) p s = absurd p
+power-minus (fin true m e) p s = up-minus (min (m * up e / down e) (2 ^ 63))
+power-minus (fin false m e) p s = absurd (true≢false (sym s))
+
+power-any : (k : Float) (n : ℕ) → T (finite k) → num k ≡ n * den k → up (toSigned 63 k) ≤ 2 ^ n
+unfolding toSigned
+power-any nan n p e = absurd p
+power-any (inf t) n p e = absurd p
+power-any (fin true m d) n p e = le-trans (up-minus (min (m * up d / down d) (2 ^ 63))) (pow-mono zero-le)
+power-any (fin false m d) n p e =
+    let q : m * up d / down d ≡ n = ap (λ (z : ℕ). z / down d) e ∙ mul-div-cancel n (down-pos d) in
+    pow-mono (omega arith)
+
+-- ---- between the thresholds
+module _ (x : Float) (A a : ℕ) (X : Size A x) (l : A * 93 ≤ 64 * a) (few : a ≤ 95232) where
+  abbrev sx : Bool
+  sx = isSignMinus x
+
+  abbrev wx : Float
+  wx = halfAway sx x
+
+  abbrev nx : ℕ
+  nx = num wx / den wx
+
+  product-size : Size a (x ⊗ invLn2)
+  product-size = size-mul a X (constants .0) l (short (omega arith))
+
+  w-size : Size (a + 32) wx
+  w-size = half-away-size x a product-size few
+
+  w-sign : isSignMinus wx ≡ sx
+  w-sign = ap isSignMinus (w-is x (X .is-finite) (product-size .is-finite)) ∙ round-minus sx _ _
+
+  k-is : trunc wx ≡ k-of sx nx
+  k-is = trunc-is wx (w-size .is-finite) ∙ ap (λ (t : Bool). round binary64 t nx 1) w-sign
+
+  divided : nx * den wx + num wx % den wx ≡ num wx
+  divided = div-add-mod' (num wx) (den wx)
+
+  n-few : nx * 64 ≤ a + 32
+  n-few = le-of-mul-le-mul-right (go nx (num wx % den wx) (num wx) (den wx) divided (w-size .bound)) (den-pos wx)
+    where
+      go : (n r a' d : ℕ) → n * d + r ≡ a' → a' * 64 ≤ (a + 32) * d → n * 64 * d ≤ (a + 32) * d
+      go n r a' d e h = omega arith
+
+  n-least : nx * den wx ≤ num wx
+  n-least = go nx (num wx % den wx) (num wx) (den wx) divided
+    where
+      go : (n r a' d : ℕ) → n * d + r ≡ a' → n * d ≤ a'
+      go n r a' d e = omega arith
+
+  n-under : num wx < (nx + 1) * den wx
+  n-under = go nx (num wx % den wx) (num wx) (den wx) divided (mod-lt (num wx) (den-pos wx))
+    where
+      go : (n r a' d : ℕ) → n * d + r ≡ a' → r < d → a' < (n + 1) * d
+      go n r a' d e h = omega arith
+
+  y-small : Small 2 (reduced x (k-of sx nx))
+  y-small =
+      let n2 : nx ≤ 2000 = omega (arith, n-few) in
+      let p = X .is-finite in
+      let q = product-size .is-finite in
+      let near = above-by (num x) (den x) nx sx (x ⊗ invLn2) wx (den-pos x) (v-is x p q) (w-is x p q) q (w-size .is-finite) n-least n-under n2 in
+      let far = below-by (num x) (den x) nx sx (x ⊗ invLn2) wx (den-pos x) (v-is x p q) (w-is x p q) q (w-size .is-finite) n-least n-under n2 in
+      size-small 2 (reduced-size x (k-of sx nx) (head-size x nx p n2 near far) (low-product sx nx n2)) (lit≤ tt)
+
+  scaled-small : (n : ℕ) → up (toSigned 63 (k-of sx nx)) ≤ 2 ^ n → 2 + n ≤ 1023
+      → let k = trunc wx in Small (2 + n) (scaleB (reduced x k) (toSigned 63 k))
+  scaled-small n u K = rw k-is (scale-small 2 n (reduced x (k-of sx nx)) (toSigned 63 (k-of sx nx)) y-small u K)
+
+  exact-k : HasValue (k-of sx nx) sx nx 1
+  exact-k = k-value sx nx (omega (arith, n-few))
+
+  minus-small : sx ≡ true → let k = trunc wx in Small 2 (scaleB (reduced x k) (toSigned 63 k))
+  minus-small e =
+      scaled-small 0 (power-minus (k-of sx nx) (has-finite (k-of sx nx) sx nx 1 exact-k) (has-sign (k-of sx nx) sx nx 1 exact-k ∙ e)) (lit≤ tt)
+
+  any-small : (n : ℕ) → nx ≤ n → 2 + n ≤ 1023 → let k = trunc wx in Small (2 + n) (scaleB (reduced x k) (toSigned 63 k))
+  any-small n h K =
+      scaled-small n
+      (le-trans (power-any (k-of sx nx) nx (has-finite (k-of sx nx) sx nx 1 exact-k) (sym (mul-one (num (k-of sx nx))) ∙ cross (k-of sx nx) sx nx 1 exact-k))
+      (pow-mono h)) K
+
+-- ---- the laws
+-- the exponential by its tests
+exp-cases : (P : Float → Type 0) (x : Float) → isNan x ≡ false → lt oThreshold x ≡ false → P plusZero
+    → (lt x uThreshold ≡ false → let k = trunc (halfAway (isSignMinus x) x) in P (scaleB (reduced x k) (toSigned 63 k))) → P (exp x)
+unfolding exp
+exp-cases P x n o u f = rw (n, o) (by-test P (lt x uThreshold) (λ e. u) f)
+
+pub exp-minus : (x : Float) → isSignMinus x ≡ true → Small 2 (exp x)
+unfolding isNan lt ofBits
+exp-minus nan s = absurd (true≢false (sym s))
+exp-minus (inf false) s = absurd (true≢false (sym s))
+exp-minus (inf true) s = exp-cases (Small 2) (inf true) refl refl (zero-small 2) (λ e. absurd (true≢false e))
+exp-minus (fin false m e) s = absurd (true≢false (sym s))
+exp-minus (fin true m e) s =
+    exp-cases (Small 2) (fin true m e) refl refl (zero-small 2)
+    (λ u. minus-small (fin true m e) 65536 95232
+    (record { is-finite = tt; bound = go (m * up e) (down e) (ltb-false (num uThreshold * down e) (m * up e * den uThreshold) u) }) (lit≤ tt) (lit≤ tt) refl)
+  where
+    go : (n d : ℕ) → n * den uThreshold ≤ num uThreshold * d → n * 64 ≤ 65536 * d
+    go n d h = omega arith
+
+not-above : (x : Float) → Small 8 x → lt oThreshold x ≡ false
+unfolding lt ofBits
+not-above nan h = absurd (h .is-finite)
+not-above (inf s) h = absurd (h .is-finite)
+not-above (fin true m e) h = refl
+not-above (fin false m e) h = le-ltb (num oThreshold * down e) (m * up e * den oThreshold) (go (m * up e) (down e) (h .bound))
+  where
+    go : (n d : ℕ) → n ≤ 2 ^ 8 * d → n * den oThreshold ≤ num oThreshold * d
+    go n d h = omega arith
+
+pub exp-small : (x : Float) → Small 8 x → Small 400 (exp x)
+exp-small x h =
+    exp-cases (Small 400) x (finite-no-nan x (h .is-finite)) (not-above x h) (zero-small 400)
+    (λ u. let X : Size 16384 x = record { is-finite = h .is-finite; bound = wide (num x) (den x) (h .bound) } in
+    any-small x 16384 23808 X (lit≤ tt) (lit≤ tt) 398 (omega (arith, n-few x 16384 23808 X (lit≤ tt) (lit≤ tt))) (lit≤ tt))
+  where
+    wide : (n d : ℕ) → n ≤ 2 ^ 8 * d → n * 64 ≤ 16384 * d
+    wide n d h = omega arith

@@ -12,7 +12,7 @@
    set status bits. A test at power-on: side 0, price 0x4p-1074, forward 0x5p-1074, strike 0x2p-1074, time 1 has the total
    0x40000BF0F86ED205 and 6 evaluations; another rounding, or subnormals lost, shows there.
    Where a result is NaN, only that is promised. On x86-64 it is 0x7FF8000000000000, 0xFFF8000000000000, or an argument's pattern, whose sign
-   may be turned and whose quiet bit may be set: it may be signalling. No total and no volatility is NaN.
+   may be turned and whose quiet bit may be set: it may be signalling. No total, no volatility and no price is NaN.
 
    Memory. A pointer to a number is aligned and not null; bytes need no alignment. A length is 64 bits wide on every processor. Where it is 0
    nothing is read or written, and the pointer may be null. What a call writes to overlaps nothing else that the call is given.
@@ -70,7 +70,7 @@ double quoter_inverse_gaussian_survival(double x, double mu);
      8  the normalised price is above its bound, exp(-|log-moneyness| / 2)
      9  no volatility was found
     10  of a sheet: under 4 bytes, more than 1,000 quotes, or not 4 + 36 times their number of bytes
-    11  to quoter_price alone: volatility is below 0
+    11  of quoter_price alone: volatility is below 0
    Refusals other than 9 have 0 evaluations. quoter_normalised returns 0, 2, 7, 8 or 9, and answers as at time 1. */
 uint32_t quoter_quote(uint32_t side, double price, double forward, double strike, double time,
                       double *total, double *volatility, uint64_t *count);
@@ -78,8 +78,8 @@ uint32_t quoter_normalised(double log_moneyness, double price, double *total, do
 
 /* The price of a volatility (section 14.1).
    Returns 0 for a price: it is written. Where volatility times the root of time is 0, it is the intrinsic value, or 0 where that is below 0.
-   Rounding may take a price past its bound by some units in the last place, so that quoter_quote refuses it with 6, and past the largest number,
-   so that it is infinite. Where it is NaN, only that is promised; none has been met.
+   It is never NaN. Rounding may take it past its bound, the forward of a call or the strike of a put, so that quoter_quote refuses it with 6 (976 units
+   in the last place are the most that was met), and past the largest number, so that it is infinite.
    Otherwise returns the number of a refusal: nothing is written. Of the refusals above 1 to 4 come first, 2 for the volatility too, and then 11:
    minus zero is not below 0. */
 uint32_t quoter_price(uint32_t side, double volatility, double forward, double strike, double time, double *price);

@@ -1,5 +1,5 @@
--- The price of a volatility (REQUIREMENTS 14.1): x is `negative_abs_log_moneyness`, s the volatility times √time. Each operation is rounded once, from
--- left to right. Definitions only.
+-- The price of a volatility (REQUIREMENTS 14.1). x stands for the log-moneyness, s for the total volatility, which is the volatility times √time.
+-- Definitions only.
 use Prim.Native.Nat.{ℕ}
 use mathlib.Core.Bool.{cond}
 use mathlib.Core.Logic.{_⊎_}

@@ -23,7 +23,7 @@ minusZero = bits 0x8000_0000_0000_0000
 
 -- side, volatility, forward, strike, time
 pub record PriceExamples : Type 0 where
-  -- a figure that a later test would refuse too
+  -- the first refusal that applies; in all but the last a later test would refuse too
   pub side-first : blackPrice 2 nan plusZero hundred (neg one) ≡ refusal 1 0
   pub nan-second : blackPrice 0 nan plusZero hundred (neg one) ≡ refusal 2 0
   pub infinite-second : blackPrice 1 (neg infinity) hundred hundred one ≡ refusal 2 0

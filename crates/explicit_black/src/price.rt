@@ -8,7 +8,7 @@ ghost use mathlib.Core.Path.{_≡_};
 ghost use Rattle.explicit_black.specs.Price.{priceRefusal, timeValue, priceOf, blackPrice};
 ghost use Rattle.explicit_black.specs.Replies.{viewPriceReply};
 
-// What the price entry hands back: a price, or the number of a refusal, whose count is 0.
+// What the price entry hands back: a price, or the number of a refusal, with no evaluations made.
 pub enum PriceReply {
     Price(f64),
     Refusal { number: u32, count: u64 },
@@ -25,7 +25,7 @@ fn price_refusal(side: u32, volatility: f64, forward: f64, strike: f64, time: f6
     if volatility < 0.0 { 11 } else { 0 }
 }
 
-// What the price is worth beyond the intrinsic value, at the total volatility s.
+// The part of the price that the intrinsic value, where it is above 0, is added to. s is the total volatility.
 fn time_value(forward: f64, strike: f64, s: f64) -> f64
     ensures { λ r. ⌜ r ≡ timeValue forward strike s ⌝ }
 {

@@ -133,7 +133,7 @@ impl Line {
     }
 }
 
-// The pattern of x. NaN has many: here it is the quiet one.
+// The pattern of x. NaN has many: here it is QUIET_NAN.
 fn pattern(x: f64) -> u64
     ensures { λ r. ⌜ r ≡ toBits binary64 x ⌝ }
 {

@@ -205,6 +205,12 @@ fn broken(what: &str, pair: [Keyed; 2], e: i64) -> u64 {
     !broken as u64
 }
 
+/// A pair whose first time value is below 2^-1022, all else within the hypotheses: the second time value and both prices are above.
+fn small_time_value() -> [Keyed; 2] {
+    let (forward, strike) = (3.0 * power(-1022), power(-1021));
+    [1.0, 4.0].map(|n| Keyed { side: 0, volatility: 1.0, forward: n * forward, strike: n * strike, time: 1.0 })
+}
+
 /// A pair whose figures are over 2^1022 times each other, all else within the hypotheses, and whose prices do not scale: of small whole
 /// numbers the first.
 fn far_apart() -> Option<[Keyed; 2]> {
@@ -222,7 +228,7 @@ fn far_apart() -> Option<[Keyed; 2]> {
     None
 }
 
-/// How many of the pairs outside the law's hypotheses do not break it, or have other values than are known.
+/// How many of the pairs outside the law's hypotheses do not break it, are not found, or have other values than are known.
 pub fn counterexamples() -> u64 {
     let [least, fourfold] = at_least_normal();
     let mut failed = broken("at least 2^-1022 for above it", [least, fourfold], 2);
@@ -233,10 +239,18 @@ pub fn counterexamples() -> u64 {
     failed += known(four_times, 4.0 * valued(one).0);
     let [infinite, quarter] = overflowing();
     failed += broken("a price that is infinite", [infinite, quarter], -2) + known(infinite, f64::INFINITY);
-    match far_apart() {
-        Some(pair) => failed += broken("figures over 2^1022 apart", pair, 2 * exponent(pair[0], pair[1])),
-        None => println!("figures over 2^1022 apart: none found"),
-    }
+    let [small, scaled] = small_time_value();
+    failed += broken("a time value below 2^-1022", [small, scaled], 2);
+    failed +=
+        known(small, f64::from_bits(0x0018_7096_6538_169B)) + known(scaled, f64::from_bits(0x0038_7096_6538_169C));
+    failed += (valued(small).1 >= f64::MIN_POSITIVE || valued(scaled).1 <= f64::MIN_POSITIVE) as u64;
+    failed += match far_apart() {
+        Some(pair) => broken("figures over 2^1022 apart", pair, 2 * exponent(pair[0], pair[1])),
+        None => {
+            println!("figures over 2^1022 apart: NONE FOUND");
+            1
+        }
+    };
     println!("counterexamples: {failed} not as known");
     failed
 }

@@ -27,7 +27,7 @@ use Rattle.arithmetic.specs.Laws.PowersOfTwo.{times-fraction}
 use Rattle.arithmetic.specs.Laws.Choices.{by-test}
 use Rattle.arithmetic.specs.Laws.PowerBounds.{zero-small, Small, size-small, small-round}
 use Rattle.arithmetic.specs.Laws.Sizes.{short, grain, grain-held, round-upper, round-lower, apart-by, sum-size, sum-alike, sub-is, Size, size-round}
-use Rattle.arithmetic.specs.Laws.Sizes.{size-mul, size-add, size-sub, size-widen, size-neg, size-div, round-minus}
+use Rattle.arithmetic.specs.Laws.Sizes.{size-mul, size-add, size-sub, size-widen, size-neg, size-div, size-of, round-minus}
 
 -- ---- the constants
 hi-value : HasValue ln2Hi false 2977044471 4294967296
@@ -45,15 +45,15 @@ inv-value = (refl, refl)
 constants : Size 93 invLn2 × Size 32 half × Size 64 one × Size 128 two × Size 11 P1 × Size 1 P2 × Size 1 P3 × Size 1 P4 × Size 1 P5
 unfolding ofBits
 constants = (
-  record { is-finite = tt; bound = lit≤ tt },
-  record { is-finite = tt; bound = lit≤ tt },
-  record { is-finite = tt; bound = lit≤ tt },
-  record { is-finite = tt; bound = lit≤ tt },
-  record { is-finite = tt; bound = lit≤ tt },
-  record { is-finite = tt; bound = lit≤ tt },
-  record { is-finite = tt; bound = lit≤ tt },
-  record { is-finite = tt; bound = lit≤ tt },
-  record { is-finite = tt; bound = lit≤ tt },
+  size-of 93 invLn2 tt,
+  size-of 32 half tt,
+  size-of 64 one tt,
+  size-of 128 two tt,
+  size-of 11 P1 tt,
+  size-of 1 P2 tt,
+  size-of 1 P3 tt,
+  size-of 1 P4 tt,
+  size-of 1 P5 tt,
 )
 
 -- ---- x / ln 2, and that and a half

@@ -26,7 +26,7 @@ use Rattle.arithmetic.specs.Laws.ScaledRatios.{positive-zero}
 use Rattle.arithmetic.specs.Laws.Sums.{add-is}
 use Rattle.arithmetic.specs.Laws.Representable.{representable}
 use Rattle.arithmetic.specs.Laws.Sizes.{short, grain-held, round-upper, apart-by, sum-size, sub-is, Size, size-round, size-mul, size-add, size-sub}
-use Rattle.arithmetic.specs.Laws.Sizes.{size-widen, size-div}
+use Rattle.arithmetic.specs.Laws.Sizes.{size-widen, size-div, size-of}
 use Rattle.arithmetic.specs.Laws.PowerBounds.{Small, size-small, Between, between-of, between-add-plus}
 use Rattle.arithmetic.specs.Laws.ExpBounds.{two-plus}
 
@@ -97,17 +97,17 @@ exponent-size x p F =
 constants : Size 43 G1 × Size 26 G2 × Size 19 G3 × Size 15 G4 × Size 12 G5 × Size 10 G6 × Size 10 G7 × Size 45 ln2Hi × Size 1 ln2Lo × Size 32 half × Size 64 one
 unfolding ofBits
 constants = (
-  record { is-finite = tt; bound = lit≤ tt },
-  record { is-finite = tt; bound = lit≤ tt },
-  record { is-finite = tt; bound = lit≤ tt },
-  record { is-finite = tt; bound = lit≤ tt },
-  record { is-finite = tt; bound = lit≤ tt },
-  record { is-finite = tt; bound = lit≤ tt },
-  record { is-finite = tt; bound = lit≤ tt },
-  record { is-finite = tt; bound = lit≤ tt },
-  record { is-finite = tt; bound = lit≤ tt },
-  record { is-finite = tt; bound = lit≤ tt },
-  record { is-finite = tt; bound = lit≤ tt },
+  size-of 43 G1 tt,
+  size-of 26 G2 tt,
+  size-of 19 G3 tt,
+  size-of 15 G4 tt,
+  size-of 12 G5 tt,
+  size-of 10 G6 tt,
+  size-of 10 G7 tt,
+  size-of 45 ln2Hi tt,
+  size-of 1 ln2Lo tt,
+  size-of 32 half tt,
+  size-of 64 one tt,
 )
 
 -- a product with what is 1 at most

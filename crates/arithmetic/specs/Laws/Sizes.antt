@@ -6,13 +6,13 @@ use Prim.Native.Nat.{ℕ, _+_, _-_, _*_, _^_, _≤_, _<_}
 use native.Mathlib.Nat.{le-trans, le-of-eq, lt-of-lt-of-le, lt-of-le-of-lt, mul-one, one-mul, mul-assoc, mul-pos, mul-le-mul, mul-le-mul-left}
 use native.Mathlib.Nat.{mul-le-mul-right}
 use native.Mathlib.Omega.{arith}
-use mathlib.Core.Bool.{Bool, true, false, Bool·beq, cond}
+use mathlib.Core.Bool.{Bool, true, false, _&&_, Bool·beq, cond}
 use borrow.Author.Tests.{lt-ltb, le-ltb}
-use lib.Dec.{T, ltb, lit≤}
+use lib.Dec.{T, ltb, leb, leb→le, lit≤}
 use lib.Pow.{pow-add, pow-pos, pow-mono, pow-lt, shl-lt}
 use lib.Ieee.{Float, inf, binary64, odd, units, unlike, round, sum, sub, neg}
 use lib.Ieee.Digits.{back}
-use lib.Ieee.Fits.{round-is, round-fits}
+use lib.Ieee.Fits.{and-l, and-r, round-is, round-fits}
 use lib.Ieee.Exact.{HasValue, odd-sign, round-exact}
 use lib.Ieee.Order.{transfer, kept, drop as dropped}
 use lib.Ieee.Scale.{finite, overflow}
@@ -179,3 +179,10 @@ size-div {a} {x} y h A q g =
   where
     go : (n d m e : ℕ) → n * 64 * e ≤ a * d * e → a * d * e ≤ a * d * m → n * e * 64 ≤ a * (m * d)
     go n d m e h g = omega arith
+
+-- of a constant, by a test that is computed
+abbrev pub sizeTest : ℕ → Float → Bool
+sizeTest a x = finite x && leb (num x * 64) (a * den x)
+
+pub size-of : (a : ℕ) (x : Float) → T (sizeTest a x) → Size a x
+size-of a x t = record { is-finite = and-l (finite x) _ t; bound = leb→le (num x * 64) (a * den x) (and-r (finite x) _ t) }

@@ -26,10 +26,10 @@ use Rattle.arithmetic.specs.Exp.{invLn2, oThreshold, uThreshold, halfAwa
 use Rattle.arithmetic.specs.Internal.Exp.{fastLimit, inFastRange, shift, shifted, maxRest, rest, clearOfTie}
 use Rattle.arithmetic.specs.Laws.Numbers.{lt-or-le, false-not}
 use Rattle.arithmetic.specs.Laws.Choices.{in-both}
-use Rattle.arithmetic.specs.Laws.Times.{cross, has-sign, has-finite, of-cross, rescale, neg-num, neg-den, neg-sign, neg-finite}
+use Rattle.arithmetic.specs.Laws.Times.{cross, has-sign, has-finite, of-cross, rescale}
 use Rattle.arithmetic.specs.Laws.Patterns.{built, bits-no-nan, value-unique}
 use Rattle.arithmetic.specs.Laws.Representable.{representable}
-use Rattle.arithmetic.specs.Laws.Sums.{add-is, sum-same}
+use Rattle.arithmetic.specs.Laws.Sums.{add-is, difference-is, sum-same}
 use Rattle.arithmetic.specs.Laws.Compare.{finite-no-nan}
 use Rattle.arithmetic.specs.Laws.Bounds.{AtMost, round-at-most, round-at-least}
 use Rattle.arithmetic.specs.Laws.Sizes.{apart-by, sum-size, sub-is}
@@ -231,9 +231,8 @@ less-whole : (v k : Float) (u : Bool) (n : ℕ) → T (finite v) → HasValue k 
 less-whole v k u n p K =
     let q = has-finite k u n 1 K in
     let c : num k * 1 ≡ n * den k = cross k u n 1 K in
-    sub-is v k
-    ∙ add-is binary64 v (neg k) p (neg-finite k q)
-    ∙ rw (neg-sign k q, has-sign k u n 1 K, neg-num k, neg-den k)
+    difference-is binary64 v k p q
+    ∙ rw (has-sign k u n 1 K)
     (sum-same binary64 (isSignMinus v) (not u) (num v) (n * den v) (den v) (num v * den k) (num k * den v) (den v * den k)
     (den-pos v) (mul-pos (den-pos v) (den-pos k))
     (mul-assoc (num v) (den k) (den v) ∙ ap (λ (z : ℕ). num v * z) (mul-comm (den k) (den v))) (second (num k) n (den v) (den k) c))

@@ -9,7 +9,7 @@ use borrow.Author.Tests.{lt-ltb, le-ltb, le-leb, lt-leb, ltb-false}
 use lib.IntN.{pos}
 use lib.Dec.{T, eqb, lt→ltb}
 use denote.Floats.{passes}
-use lib.Ieee.{Float, nan, inf, fin, binary64, up, down, minus, round, sum, add, sub, mul, neg, ofInt, isNan, lt, eq, le, ofBits}
+use lib.Ieee.{Float, nan, inf, fin, binary64, up, down, minus, round, sum, add, sub, mul, ofInt, isNan, lt, eq, le, ofBits}
 use lib.Ieee.Fits.{down-pos}
 use lib.Ieee.Bits.{is-true}
 use lib.Ieee.Order.{round-mono}
@@ -19,9 +19,9 @@ use Rattle.arithmetic.specs.Operations.{_⊕_, _⊖_, _⊗_, _⊘_, bits
 use Rattle.arithmetic.specs.Exp.{ln2Lo as L}
 use Rattle.arithmetic.specs.Ln.{significand, exponent, series, ln, fromLeast, toMost, ln1p}
 use Rattle.arithmetic.specs.Laws.Numbers.{lt-or-le}
-use Rattle.arithmetic.specs.Laws.Times.{cross, has-sign, has-finite, neg-num, neg-den, neg-sign, neg-finite}
+use Rattle.arithmetic.specs.Laws.Times.{cross, has-sign, has-finite}
 use Rattle.arithmetic.specs.Laws.Compare.{finite-no-nan}
-use Rattle.arithmetic.specs.Laws.Sums.{sum-same, add-is}
+use Rattle.arithmetic.specs.Laws.Sums.{sum-same, difference-is}
 use Rattle.arithmetic.proofs.Integers.{integer-value}
 use Rattle.arithmetic.proofs.SqrtPaths.{zero-by-zero}
 
@@ -41,12 +41,11 @@ sub-whole n c N C =
     let y = ofInt binary64 (pos c) in
     let v = integer-value n N in
     let w = integer-value c C in
-    let F = has-finite y false c 1 w in
     let A : num x * den y * 1 ≡ n * (den x * den y) = over (num x) (den x) (den y) n (cross x false n 1 v) in
     let B : num y * den x * 1 ≡ c * (den x * den y) =
     over (num y) (den y) (den x) c (cross y false c 1 w) ∙ ap (λ (z : ℕ). c * z) (mul-comm (den y) (den x)) in
-    add-is binary64 x (neg y) (has-finite x false n 1 v) (neg-finite y F)
-    ∙ rw (neg-num y, neg-den y, neg-sign y F, has-sign x false n 1 v, has-sign y false c 1 w)
+    difference-is binary64 x y (has-finite x false n 1 v) (has-finite y false c 1 w)
+    ∙ rw (has-sign x false n 1 v, has-sign y false c 1 w)
     (sum-same binary64 false true n c 1 (num x * den y) (num y * den x) (den x * den y) (zero-lt-suc 0) (mul-pos (den-pos x) (den-pos y)) A B
     ∙ whole-difference n c)
   where

@@ -15,9 +15,11 @@ pub mod Products
 pub mod Extremes
 pub mod ScaledRatios
 pub mod Identities
+pub mod Zeros
 pub mod Bounds
 pub mod Sizes
 pub mod PowerBounds
+pub mod UnitInterval
 pub mod ScaledProducts
 -- The square root:
 pub mod WholeRoots

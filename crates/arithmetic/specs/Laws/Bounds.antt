@@ -8,17 +8,20 @@ use mathlib.Core.Bool.{Bool, true, false, _&&_, _||_, true≢false}
 use lib.IntN.{pos}
 use lib.Dec.{T, ltb, eqb, ltb→lt, eqb→eq}
 use lib.Pow.{pow-pos}
-use lib.Ieee.{Float, nan, inf, fin, Format, binary64, low, up, down, size, units, round, neg, le, fits}
+use borrow.Author.Tests.{ltb-true}
+use lib.Ieee.{Float, nan, inf, fin, Format, binary64, low, up, down, size, units, round, neg, lt, le, fits}
 use lib.Ieee.Fits.{round-is}
 use lib.Ieee.Nearest.{closest, closest-mono}
-use lib.Ieee.Order.{transfer, drop, round-mono}
+use lib.Ieee.Order.{transfer, drop, round-mono, le-of-values}
 use lib.Ieee.Scale.{grid, overflow, finite}
 use lib.Ieee.Positive.{num, den, den-pos}
 use Rattle.arithmetic.specs.Basic.{isSignMinus}
-use Rattle.arithmetic.specs.Laws.Times.{cross, has-sign, has-finite, neg-num, neg-den}
+use Rattle.arithmetic.specs.Laws.Times.{cross, has-sign, has-finite, of-cross, neg-num, neg-den}
 use Rattle.arithmetic.specs.Laws.Rounding.{round-value, round-under}
 use Rattle.arithmetic.specs.Laws.Representable.{round-representable, grid-under}
 use Rattle.arithmetic.specs.Laws.Identities.{round-neg}
+use Rattle.arithmetic.specs.Laws.Choices.{refuted}
+use Rattle.arithmetic.specs.Laws.Compare.{lt-is}
 
 -- ---- an order of two values above zero, as one of fractions
 pub le-cross : (x y : Float) → T (finite x) → T (finite y) → isSignMinus x ≡ false → isSignMinus y ≡ false → T (le x y)
@@ -38,6 +41,12 @@ le-cross (fin false m e) (fin false n d) p q s t h =
     go true v f g t = f tt
     go false true f g t = g tt
     go false false f g t = absurd t
+
+pub lt-not-le : (x y : Float) → T (finite x) → T (finite y) → isSignMinus x ≡ false → isSignMinus y ≡ false → lt x y ≡ true → le y x ≡ false
+lt-not-le x y p q s t h = refuted (le y x) (λ u.
+    let l : num x * den y < num y * den x = ltb-true (num x * den y) (num y * den x) (sym (lt-is x y p q ∙ rw (s, t) refl) ∙ h) in
+    let g : num y * den x ≤ num x * den y = le-cross y x q p t s u in
+    omega arith)
 
 -- ---- rounding keeps the order of two magnitudes, so it does not pass a value of the format
 -- the magnitude is the same with either sign
@@ -108,6 +117,12 @@ round-at-most f s a c v C F p h =
       sign = has-sign (round f s a c) s (grid f a c) (2 ^ low f) value;
       bound = not-above f s a c v C F p under h;
     }
+
+-- as a comparison
+pub at-most-le : (v r : Float) → T (finite v) → isSignMinus v ≡ false → AtMost false v r → T (le r v)
+at-most-le v r p s h =
+    le-of-values r v (num r) (den r) (num v) (den v) (den-pos r) (den-pos v)
+    (of-cross r false (num r) (den r) (h .is-finite) (h .sign) refl) (of-cross v false (num v) (den v) p s refl) (h .bound)
 
 -- ---- what rounds to a zero, and what to an infinity
 tie-zero : closest 1 2 ≡ 0

@@ -1,6 +1,8 @@
 -- Choices by a test: what holds of both sides holds of the one that is chosen. Assumes nothing.
 use mathlib.Core.Path.{_≡_, refl}
 use mathlib.Core.Bool.{Bool, true, false, cond}
+use lib.Dec.{T, not-T}
+use lib.Ieee.Bits.{is-false}
 use Prim.Native.Nat.{ℕ}
 use native.Mathlib.Omega.{arith}
 
@@ -12,6 +14,15 @@ in-both P false h g = g
 pub by-test : {A : Type 0} (P : A → Type 0) (b : Bool) {x y : A} → (b ≡ true → P x) → (b ≡ false → P y) → P (cond b x y)
 by-test P true h g = h refl
 by-test P false h g = g refl
+
+-- two choices by one test, with the same where it is true
+pub on-false : {A : Type 0} (b : Bool) (x : A) {y z : A} → (b ≡ false → y ≡ z) → cond b x y ≡ cond b x z
+on-false true x h = refl
+on-false false x h = h refl
+
+-- a test that cannot hold
+pub refuted : (b : Bool) → (T b → ⊥) → b ≡ false
+refuted b n = is-false b (not-T b n)
 
 -- two constructors are never equal: `cc` makes 0 ≡ 1 of such an equation
 pub never : {A : Type 0} → _≡_ {A = ℕ} 0 1 → A

@@ -1,14 +1,20 @@
--- Comparisons of two values and of 2 ^ k times each agree; and three tests by which a value is no NaN. Assumes nothing.
+-- Comparisons of two values and of 2 ^ k times each agree; of two finite values one is at most the other, or is above it; and three tests by which a
+-- value is no NaN. Assumes nothing.
 use mathlib.Core.Path.{_≡_, refl, sym, ap, _∙_}
-use Prim.Native.Nat.{ℕ, _+_, _*_, _^_, _<_}
-use native.Mathlib.Nat.{mul-assoc, mul-comm, mul-left-comm, mul-pos}
-use mathlib.Core.Bool.{Bool, true, false, true≢false}
-use lib.Dec.{T}
+use mathlib.Core.Logic.{inl, inr}
+use Prim.Native.Nat.{ℕ, zero, suc, _+_, _*_, _^_, _≤_, _<_}
+use native.Mathlib.Nat.{mul-assoc, mul-comm, mul-left-comm, mul-pos, eq-or-lt-of-le}
+use native.Mathlib.Omega.{arith}
+use borrow.Author.Tests.{lt-ltb, ltb-true}
+use mathlib.Core.Bool.{Bool, true, false, _&&_, _||_, or-true, true≢false, false≢true}
+use lib.Dec.{T, ltb, eqb, eqb-refl, lt→ltb}
 use lib.Pow.{pow-pos}
-use lib.Ieee.{Float, nan, inf, fin, below, level, lt, eq, le, ne, isNan}
+use lib.Ieee.{Float, nan, inf, fin, up, down, below, level, lt, eq, le, ne, isNan}
+use lib.Ieee.Bits.{is-true}
 use lib.Ieee.Compare.{nan-differs}
 use lib.Ieee.Scale.{finite}
-use lib.Ieee.Positive.{num, den, den-pos}
+use lib.Ieee.Positive.{num, den, den-pos, positive, first-pos}
+use Rattle.arithmetic.specs.Laws.Numbers.{lt-or-le}
 use Rattle.arithmetic.specs.Laws.Ratio.{ltb-ratio, eqb-ratio, zero-ratio, add-ratio}
 use Rattle.arithmetic.specs.Basic.{isSignMinus}
 use Rattle.arithmetic.specs.Laws.Times.{Times, both-finite}
@@ -70,6 +76,40 @@ module _ (k : ℕ) (x y x' y' : Float) (h : Times k x x') (g : Times k y y') whe
   pub le-times : le x' y' ≡ le x y
   unfolding le
   le-times = rw (lt-times, eq-times)
+
+-- ---- of two finite values, y is below x where x is not at most y
+self-equal : (a b : ℕ) → a ≡ b → eqb a b ≡ true
+self-equal a b e = rw e (is-true (eqb b b) (eqb-refl b))
+
+at-most-test : (a b : ℕ) (c : Bool) → (a ≡ b → c ≡ true) → a ≤ b → (ltb a b || c && true) ≡ true
+at-most-test a b c f h = elim (eq-or-lt-of-le h) [ inl e ↦ rw (f e) (or-true (ltb a b)) | inr l ↦ rw (lt-ltb a b l) refl ]
+
+not-at-most : (s t : Bool) (a b : ℕ) → (below s a t b || level s a t b) ≡ false → below t b s a ≡ true
+not-at-most false false a b h =
+    elim (lt-or-le b a) [ inl l ↦ lt-ltb b a l | inr l ↦ absurd (true≢false (sym (at-most-test a b (eqb a b) (self-equal a b) l) ∙ h)) ]
+not-at-most true true a b h =
+    elim (lt-or-le a b) [ inl l ↦ lt-ltb a b l | inr l ↦ absurd (true≢false (sym (at-most-test b a (eqb a b) (λ e. self-equal a b (sym e)) l) ∙ h)) ]
+not-at-most false true zero zero h = absurd (true≢false h)
+not-at-most false true (suc a) b h = lt-ltb 0 (b + suc a) (omega arith)
+not-at-most false true zero (suc b) h = lt-ltb 0 (suc b + 0) (omega arith)
+not-at-most true false zero zero h = absurd (true≢false h)
+not-at-most true false (suc a) b h = absurd (true≢false (sym (rw (lt-ltb 0 (suc a + b) (omega arith)) refl) ∙ h))
+not-at-most true false zero (suc b) h = absurd (true≢false (sym (rw (lt-ltb 0 (0 + suc b) (omega arith)) refl) ∙ h))
+
+pub not-le : (x y : Float) → T (finite x) → T (finite y) → le x y ≡ false → lt y x ≡ true
+unfolding le
+not-le x y p q h =
+    lt-is y x q p
+    ∙ not-at-most (isSignMinus x) (isSignMinus y) (num x * den y) (num y * den x) (sym (rw (lt-is x y p q, eq-is x y p q) refl) ∙ h)
+
+-- what is above a value that is not negative is above 0
+pub lt-positive : (x y : Float) → T (finite x) → isSignMinus x ≡ false → T (finite y) → lt x y ≡ true → T (positive y)
+lt-positive x nan p s q h = absurd q
+lt-positive x (inf t) p s q h = absurd q
+lt-positive x (fin true m e) p s q h = absurd (false≢true (sym (lt-is x (fin true m e) p q ∙ rw s refl) ∙ h))
+lt-positive x (fin false m e) p s q h =
+    let l : num x * down e < m * up e * den x = ltb-true (num x * down e) (m * up e * den x) (sym (lt-is x (fin false m e) p q ∙ rw s refl) ∙ h) in
+    lt→ltb 0 m (first-pos m (up e) (first-pos (m * up e) (den x) (omega arith)))
 
 -- ---- tests by which x is no NaN
 pub finite-no-nan : (x : Float) → T (finite x) → isNan x ≡ false

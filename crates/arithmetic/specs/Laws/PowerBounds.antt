@@ -7,14 +7,16 @@ use native.Mathlib.Nat.{le-trans, le-of-eq, lt-of-lt-of-le, mul-one, one-mul, mu
 use native.Mathlib.Nat.{zero-mul, pow-suc}
 use native.Mathlib.Omega.{arith}
 use mathlib.Core.Bool.{Bool, true, false, not, _&&_}
+use borrow.Author.Tests.{lt-ltb}
 use lib.Dec.{T, leb, leb→le, lit≤}
 use lib.Pow.{pow-add, pow-pos, pow-mono}
-use lib.Ieee.{Float, binary64, ofBits, unlike, round, neg}
-use lib.Ieee.Fits.{and-l, and-r}
+use lib.Ieee.{Float, nan, inf, fin, binary64, up, down, le, ofBits, unlike, round, neg}
+use lib.Ieee.Fits.{and-l, and-r, down-pos}
+use lib.Ieee.Order.{le-of-values}
 use lib.Ieee.Bits.{is-false}
 use lib.Ieee.Scale.{finite}
 use lib.Ieee.Positive.{num, den, den-pos}
-use Rattle.arithmetic.specs.Operations.{_⊕_, _⊖_, _⊗_, _⊘_, plusZero}
+use Rattle.arithmetic.specs.Operations.{_⊕_, _⊖_, _⊗_, _⊘_, plusZero, one}
 use Rattle.arithmetic.specs.Basic.{isSignMinus}
 use Rattle.arithmetic.specs.Laws.Numbers.{lt-or-le}
 use Rattle.arithmetic.specs.Laws.Times.{neg-finite, neg-num, neg-den}
@@ -45,6 +47,16 @@ small-round s a c k C K h =
 pub zero-small : (k : ℕ) → Small k plusZero
 unfolding ofBits
 zero-small k = record { is-finite = tt; bound = zero-le }
+
+-- as a comparison with 1
+pub small-le : (r : Float) → Small 0 r → T (le r one)
+unfolding le ofBits
+small-le nan h = absurd (h .is-finite)
+small-le (inf s) h = absurd (h .is-finite)
+small-le (fin false m e) h =
+    le-of-values (fin false m e) one (m * up e) (down e) 1 1 (down-pos e) (pow-pos 0) (refl, refl) (refl, refl)
+    (le-trans (le-of-eq (mul-one (m * up e))) (h .bound))
+small-le (fin true m e) h = let d = down-pos e in rw (lt-ltb 0 (m * up e * 1 + 1 * down e) (omega arith)) tt
 
 pub small-neg : {k : ℕ} {x : Float} → Small k x → Small k (neg x)
 small-neg {k} {x} h = record { is-finite = neg-finite x (h .is-finite); bound = rw (neg-num x, neg-den x) (h .bound) }

@@ -6,23 +6,24 @@ use Prim.Native.Nat.{ℕ, _+_, _-_, _*_, _^_, _≤_, _<_}
 use native.Mathlib.Nat.{le-trans, le-of-eq, lt-of-lt-of-le, lt-of-le-of-lt, mul-one, one-mul, mul-assoc, mul-pos, mul-le-mul, mul-le-mul-left}
 use native.Mathlib.Nat.{mul-le-mul-right}
 use native.Mathlib.Omega.{arith}
-use mathlib.Core.Bool.{Bool, true, false, _&&_, Bool·beq, cond}
+use mathlib.Core.Bool.{Bool, true, false, not, _&&_, Bool·beq, cond}
 use borrow.Author.Tests.{lt-ltb, le-ltb}
 use lib.Dec.{T, ltb, leb, leb→le, lit≤}
 use lib.Pow.{pow-add, pow-pos, pow-mono, pow-lt, shl-lt}
-use lib.Ieee.{Float, inf, binary64, odd, units, unlike, round, sum, sub, neg}
+use lib.Ieee.{Float, inf, binary64, odd, units, unlike, round, sum, sub, neg, fits}
 use lib.Ieee.Digits.{back}
 use lib.Ieee.Fits.{and-l, and-r, round-is, round-fits}
 use lib.Ieee.Exact.{HasValue, odd-sign, round-exact}
 use lib.Ieee.Order.{transfer, kept, drop as dropped}
 use lib.Ieee.Scale.{finite, overflow}
-use lib.Ieee.Positive.{num, den, den-pos}
+use lib.Ieee.Positive.{num, den, den-pos, through}
 use Rattle.arithmetic.specs.Operations.{_⊕_, _⊖_, _⊗_, _⊘_}
 use Rattle.arithmetic.specs.Basic.{isSignMinus}
 use Rattle.arithmetic.specs.Laws.Numbers.{lt-or-le}
 use Rattle.arithmetic.specs.Laws.Times.{cross, has-finite, has-sign, neg-finite, neg-num, neg-den}
 use Rattle.arithmetic.specs.Laws.Rounding.{round-value, round-under}
-use Rattle.arithmetic.specs.Laws.Sums.{add-is}
+use Rattle.arithmetic.specs.Laws.Choices.{by-test}
+use Rattle.arithmetic.specs.Laws.Sums.{add-is, difference-is}
 use Rattle.arithmetic.specs.Laws.Products.{mul-is, div-is}
 use Rattle.arithmetic.specs.Laws.ScaledRatios.{positive-zero}
 use Rattle.arithmetic.specs.Laws.Bounds.{AtMost, round-at-most, round-at-least}
@@ -116,6 +117,10 @@ sum-size false true a b c = go (lt-or-le a b)
     go (inl h) = (true, rw (lt-ltb a b h) (ap (λ (z : ℕ). round binary64 true z c) (omega arith)))
     go (inr h) = (false, rw (le-ltb a b h) (ap (λ (z : ℕ). round binary64 false z c) (omega arith)))
 
+pub sum-apart : (s : Bool) (a b c : ℕ) → (u : Bool) × (sum binary64 s a (not s) b c ≡ round binary64 u (a - b + (b - a)) c)
+sum-apart true a b c = sum-size true false a b c
+sum-apart false a b c = sum-size false true a b c
+
 pub sum-alike : (s : Bool) (a b c : ℕ) → sum binary64 s a s b c ≡ round binary64 s (a + b) c
 unfolding sum
 sum-alike true a b c = refl
@@ -166,6 +171,18 @@ size-neg {a} {x} h = record { is-finite = neg-finite x (h .is-finite); bound = r
 pub size-sub : {a b : ℕ} {x y : Float} → Size a x → Size b y → a + b < 2 ^ 53 → Size (a + b) (x ⊖ y)
 size-sub {a} {b} {x} {y} h g C = subst (Size (a + b)) (sym (sub-is x y)) (size-add h (size-neg g) C)
 
+-- the difference of two values of one sign is no larger than the larger
+pub size-apart : {a : ℕ} {x y : Float} → Size a x → Size a y → isSignMinus y ≡ isSignMinus x → a < 2 ^ 53 → Size a (x ⊖ y)
+size-apart {a} {x} {y} h g e A =
+    let s = isSignMinus x in
+    let z = sum-apart s (num x * den y) (num y * den x) (den x * den y) in
+    subst (Size a) (sym (difference-is binary64 x y (h .is-finite) (g .is-finite) ∙ rw e (z .1)))
+    (size-round (z .0) (num x * den y - num y * den x + (num y * den x - num x * den y)) (den x * den y) a (mul-pos (den-pos x) (den-pos y)) A
+    (less (num x) (num y) (den x) (den y) (mul-le-mul-right (den y) (h .bound)) (mul-le-mul-right (den x) (g .bound))))
+  where
+    less : (n m d e : ℕ) → n * 64 * e ≤ a * d * e → m * 64 * d ≤ a * e * d → (n * e - m * d + (m * d - n * e)) * 64 ≤ a * (d * e)
+    less n m d e h g = omega arith
+
 pub size-widen : {a : ℕ} (b : ℕ) {x : Float} → Size a x → a ≤ b → Size b x
 size-widen b {x} h l = record { is-finite = h .is-finite; bound = le-trans (h .bound) (mul-le-mul-right (den x) l) }
 
@@ -179,6 +196,69 @@ size-div {a} {x} y h A q g =
   where
     go : (n d m e : ℕ) → n * 64 * e ≤ a * d * e → a * d * e ≤ a * d * m → n * e * 64 ≤ a * (m * d)
     go n d m e h g = omega arith
+
+-- ---- x is no larger than v in size, v a value of the format
+pub record NoLarger (v x : Float) : Type 0 where
+  pub is-finite : T (finite x)
+  pub bound : num x * den v ≤ num v * den x
+
+no-larger-round : (s : Bool) (a c : ℕ) (v : Float) → 0 < c → T (fits binary64 v) → T (finite v) → a * den v ≤ num v * c → NoLarger v (round binary64 s a c)
+no-larger-round s a c v C F p h =
+    let b = round-at-most binary64 s a c v C F p h in
+    record { is-finite = b .is-finite; bound = b .bound }
+
+pub no-larger-size : {a : ℕ} {v x : Float} → Size a v → NoLarger v x → Size a x
+no-larger-size {a} {v} {x} h g = record {
+  is-finite = g .is-finite;
+  bound = through (num x) (num v) a (den x) (den v) 64 (den-pos v) (g .bound) (h .bound);
+}
+
+-- a product with what is 1 at most
+pub no-larger-mul : (v c : Float) → T (fits binary64 v) → T (finite v) → Size 64 c → NoLarger v (v ⊗ c)
+no-larger-mul v c F p h =
+    subst (NoLarger v) (sym (mul-is binary64 v c p (h .is-finite)))
+    (no-larger-round (unlike (isSignMinus v) (isSignMinus c)) (num v * num c) (den v * den c) v (mul-pos (den-pos v) (den-pos c)) F p
+    (go (num v) (den v) (num c) (den c) (mul-le-mul-left (num v * den v) (h .bound))))
+  where
+    go : (n d m e : ℕ) → n * d * (m * 64) ≤ n * d * (64 * e) → n * m * d ≤ n * (d * e)
+    go n d m e h = omega arith
+
+-- a quotient by what is 1 at least
+pub no-larger-div : (v x y : Float) → T (fits binary64 v) → T (finite v) → NoLarger v x → T (finite y) → den y ≤ num y → NoLarger v (x ⊘ y)
+no-larger-div v x y F p h q g =
+    let Y : 0 < num y = lt-of-lt-of-le (den-pos y) g in
+    subst (NoLarger v) (sym (div-is binary64 x y (h .is-finite) q ∙ rw (positive-zero (num y) Y)))
+    (no-larger-round (unlike (isSignMinus x) (isSignMinus y)) (num x * den y) (num y * den x) v (mul-pos Y (den-pos x)) F p
+    (go (num x) (den x) (num v) (den v) (num y) (den y) (mul-le-mul-right (den y) (h .bound)) (mul-le-mul-left (num v * den x) g)))
+  where
+    go : (n d m e a b : ℕ) → n * e * b ≤ m * d * b → m * d * b ≤ m * d * a → n * b * e ≤ m * (a * d)
+    go n d m e a b h g = omega arith
+
+-- a zero less what is no larger
+pub no-larger-zero : (v x z : Float) → T (fits binary64 v) → T (finite v) → NoLarger v x → T (finite z) → num z ≡ 0 → NoLarger v (z ⊖ x)
+no-larger-zero v x z F p h q e =
+    let s = isSignMinus z in
+    let t = not (isSignMinus x) in
+    let u = sum-size s t (num z * den x) (num x * den z) (den z * den x) in
+    subst (NoLarger v) (sym (difference-is binary64 z x q (h .is-finite) ∙ u .1))
+    (no-larger-round (u .0) (apart-by s t (num z * den x) (num x * den z)) (den z * den x) v (mul-pos (den-pos z) (den-pos x)) F p
+    (go (num z) (den z) (num x) (den x) (num v) (den v) _ e (mul-le-mul-right (den z) (h .bound))
+    (mul-le-mul-right (den v) (apart-le s t (num z * den x) (num x * den z)))))
+  where
+    go : (n d m e a b r : ℕ) → n ≡ 0 → m * b * d ≤ a * e * d → r * b ≤ (n * e + m * d) * b → r * b ≤ a * (d * e)
+    go n d m e a b r z h g = le-trans g (subst (λ (k : ℕ). (k * e + m * d) * b ≤ a * (d * e)) (sym z) (omega arith))
+
+-- x less y, y with the sign - and no smaller than x in size: not negative
+pub difference-plus : (x y : Float) → T (finite x) → T (finite y) → isSignMinus y ≡ true → num x * den y ≤ num y * den x → isSignMinus (x ⊖ y) ≡ false
+unfolding sum
+difference-plus x y p q t h =
+    ap isSignMinus (difference-is binary64 x y p q) ∙ rw t (go (isSignMinus x) (num x * den y) (num y * den x) (den x * den y) h)
+  where
+    go : (s : Bool) (a b c : ℕ) → a ≤ b → isSignMinus (sum binary64 s a false b c) ≡ false
+    go false a b c h = round-minus false (a + b) c
+    go true a b c h =
+        by-test (λ (z : Float). isSignMinus z ≡ false) (ltb a b) (λ e. round-minus false (b - a) c)
+        (λ e. rw (le-ltb b a h) (round-minus false (a - b) c))
 
 -- of a constant, by a test that is computed
 abbrev pub sizeTest : ℕ → Float → Bool

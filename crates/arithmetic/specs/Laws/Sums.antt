@@ -5,7 +5,7 @@ use mathlib.Core.Logic.{_⊎_, inl, inr}
 use Prim.Native.Nat.{ℕ, _+_, _-_, _*_, _^_, _≤_, _<_}
 use native.Mathlib.Nat.{add-comm, le-trans, le-of-eq, mul-assoc, mul-comm, mul-right-comm, mul-pos, sub-le, mul-le-mul-right}
 use native.Mathlib.Omega.{arith}
-use mathlib.Core.Bool.{Bool, true, false, _&&_, Bool·beq, cond}
+use mathlib.Core.Bool.{Bool, true, false, not, _&&_, Bool·beq, cond}
 use lib.Dec.{T, ltb}
 use lib.Pow.{pow-pos}
 use lib.Ieee.{Float, Format, low, round, sum, add, sub, neg, fits}
@@ -126,18 +126,21 @@ module _ (f : Format) (a b c : ℕ) (A : (n : ℕ) → n ≤ a → grid f n c < 
       in-both (λ (z : Float). T (finite z)) (ltb a b)
       (round-finite f true (b - a) c (B (b - a) (sub-le b a))) (round-finite f false (a - b) c (A (a - b) (sub-le a b)))
 
+-- a difference as a sum of two fractions
+pub difference-is : (f : Format) (x y : Float) → T (finite x) → T (finite y)
+    → sub f x y ≡ sum f (isSignMinus x) (num x * den y) (not (isSignMinus y)) (num y * den x) (den x * den y)
+unfolding sub
+difference-is f x y p q = add-is f x (neg y) p (neg-finite y q) ∙ rw (neg-num y, neg-den y, neg-sign y q)
+
 part-le : (n nx dx dy c : ℕ) → c ≡ dx * dy → n ≤ nx * dy → n * dx ≤ nx * c
 part-le n nx dx dy c e h = le-trans (mul-le-mul-right dx h) (le-of-eq (mul-assoc nx dy dx ∙ ap (λ (z : ℕ). nx * z) (mul-comm dy dx ∙ sym e)))
 
 pub sub-finite : (f : Format) (x y : Float) → T (fits f x) → T (fits f y) → T (finite x) → T (finite y)
     → isSignMinus x ≡ false → isSignMinus y ≡ false → T (finite (sub f x y))
-unfolding sub
 sub-finite f x y F G p q s t =
     let c = den x * den y in
     let C : 0 < c = mul-pos (den-pos x) (den-pos y) in
-    let is : add f x (neg y) ≡ sum f false (num x * den y) true (num y * den x) c =
-    add-is f x (neg y) p (neg-finite y q)
-    ∙ rw (neg-num y, neg-den y, neg-sign y q, s, t) in
+    let is : sub f x y ≡ sum f false (num x * den y) true (num y * den x) c = difference-is f x y p q ∙ rw (s, t) in
     subst (λ (z : Float). T (finite z)) (sym is)
     (sum-finite f (num x * den y) (num y * den x) c
     (λ n h. grid-under f n c x C F p (part-le n (num x) (den x) (den y) c refl h))

@@ -21,16 +21,16 @@ use Rattle.arithmetic.specs.Ln.{ln, ln1p}
 use Rattle.arithmetic.specs.Laws.Choices.{by-test}
 use Rattle.arithmetic.specs.Laws.Numbers.{lt-or-le}
 use Rattle.arithmetic.specs.Laws.Ratio.{sub-ratio}
-use Rattle.arithmetic.specs.Laws.Times.{cross, has-finite, has-sign, num-positive, positive-sign, neg-finite, neg-sign, neg-num, neg-den}
+use Rattle.arithmetic.specs.Laws.Times.{cross, has-finite, has-sign, num-positive, positive-sign}
 use Rattle.arithmetic.specs.Laws.Compare.{lt-is}
 use Rattle.arithmetic.specs.Laws.Extremes.{max-is, min-is}
-use Rattle.arithmetic.specs.Laws.Sums.{add-is}
+use Rattle.arithmetic.specs.Laws.Sums.{difference-is}
 use Rattle.arithmetic.specs.Laws.Products.{mul-is, div-is}
 use Rattle.arithmetic.specs.Laws.Representable.{representable, Representable}
 use Rattle.arithmetic.specs.Laws.Bounds.{AtMost, round-at-most, le-cross}
 use Rattle.arithmetic.specs.Laws.ScaledRatios.{positive-zero, normal-positive}
 use Rattle.bs_option_price.specs.BsOptionPrice.{negativeAbsLogMoneyness}
-use Rattle.arithmetic.specs.Laws.Sizes.{grain, grain-held, round-upper, round-lower, sub-is}
+use Rattle.arithmetic.specs.Laws.Sizes.{grain, grain-held, round-upper, round-lower}
 use Rattle.arithmetic.specs.Laws.PowerBounds.{Small, small-widen, small-neg, small-sub}
 use Rattle.arithmetic.specs.Laws.LnBounds.{ln-small, Excess, ln1p-small}
 
@@ -71,9 +71,7 @@ module _ (s l : Float) (S : PositiveValue s) (L : PositiveValue l) (order : num 
   less-is : l ⊖ s ≡ round binary64 false (num l * den s - num s * den l) (den l * den s)
   unfolding sum
   less-is =
-      sub-is l s
-      ∙ add-is binary64 l (neg s) q (neg-finite s p)
-      ∙ rw (neg-sign s p, neg-num s, neg-den s, s-sign, l-sign, le-ltb (num l * den s) (num s * den l) order) refl
+      difference-is binary64 l s q p ∙ rw (s-sign, l-sign, le-ltb (num l * den s) (num s * den l) order) refl
 
   -- it is 1 times l at most
   z-at-most : AtMost false l (half ⊗ l)

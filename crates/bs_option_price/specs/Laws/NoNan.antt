@@ -11,7 +11,7 @@ use lib.IntN.{ℤ, pos}
 use lib.Dec.{T, lit≤, ltb→lt}
 use lib.Pow.{pow-pos}
 use lib.Ieee.{Float, nan, inf, fin, binary64, up, down, unlike, round, add, div, mul, neg, lt, eq, isNan, fits, ofBits}
-use lib.Ieee.Fits.{div-fits, up-pos, down-pos}
+use lib.Ieee.Fits.{mul-fits, div-fits, up-pos, down-pos}
 use lib.Ieee.Scale.{finite}
 use lib.Ieee.Positive.{num, den, den-pos, positive, positive-finite}
 use Rattle.arithmetic.specs.Operations.{_⊕_, _⊗_, _⊘_, plusZero, half, two}
@@ -52,7 +52,7 @@ cody-no-nan x h t = number-or-zero _
 
 -- ---- the vega is 4 at most
 -- a number with the sign +
-abbrev Upper : Float → Type 0
+abbrev pub Upper : Float → Type 0
 Upper z = (T (finite z) × (isSignMinus z ≡ false)) ⊎ (z ≡ inf false)
 
 upper-round : (a c : ℕ) → Upper (round binary64 false a c)
@@ -86,14 +86,15 @@ neg-half-parts : (isSignMinus (neg half) ≡ true) × T (finite (neg half))
 unfolding neg ofBits
 neg-half-parts = (refl, tt)
 
-minus-half : (z : Float) → Upper z → isSignMinus (neg half ⊗ z) ≡ true
+pub minus-half : (z : Float) → Upper z → isSignMinus (neg half ⊗ z) ≡ true
 minus-half z (inl (p, s)) = ap isSignMinus (mul-is binary64 (neg half) z (neg-half-parts .1) p) ∙ rw (neg-half-parts .0, s) (round-minus true _ _)
 minus-half z (inr e) = ap (λ (w : Float). isSignMinus (neg half ⊗ w)) e ∙ ap isSignMinus half-of-infinity
 
-vega-small : (h t : Float) → T (finite h) → T (finite t) → Small 2 (normalisedVega h t)
+vega-small : (h t : Float) → T (finite h) → T (finite t) → Small 0 (normalisedVega h t)
 unfolding normalisedVega ofBits
 vega-small h t p q =
-    small-mul (small-of 0 frac1Sqrt2Pi tt) (exp-minus _ (minus-half _ (upper-add (t ⊗ t) (h ⊗ h) (upper-square t q) (upper-square h p)))) (lit≤ tt)
+    small-mul (small-of 0 frac1Sqrt2Pi tt)
+    (exp-minus _ (mul-fits binary64 _ _) (minus-half _ (upper-add (t ⊗ t) (h ⊗ h) (upper-square t q) (upper-square h p)))) (lit≤ tt)
 
 -- ---- by the three formulas
 abbrev Number : Float → Type 0

@@ -24,6 +24,8 @@ use Rattle.arithmetic.specs.Laws.Identities.{mul-swap}
 use Rattle.arithmetic.specs.Laws.Extremes.{times-zero, times-refl}
 use Rattle.arithmetic.specs.Laws.ScaledRatios.{PositiveNormal, plus, num-above}
 use Rattle.arithmetic.specs.Laws.SqrtBounds.{roots-times}
+use Rattle.arithmetic.specs.Laws.Choices.{refuted}
+use Rattle.arithmetic.specs.Laws.Zeros.{zeroOf, plusZero-is, zero-is}
 use Rattle.bs_option_price.specs.BsOptionPrice.{negativeAbsLogMoneyness}
 use Rattle.bs_option_price.specs.Laws.Moneyness.{BoundedRatio, log-times, log-swap}
 use Rattle.explicit_black.specs.Counted.{Counted, atOnce}
@@ -31,7 +33,7 @@ use Rattle.explicit_black.specs.Quote.{Outcome, refused, firstRefusal, f
 use Rattle.explicit_black.specs.Demand.{Exactly, ComparablePair, ComparableFigures, ComparableTimes, compared}
 use Rattle.explicit_black.specs.Laws.ScaledPrice.{Plain, from-price-times}
 use Rattle.explicit_black.specs.Laws.Quote.{compared-input}
-use Rattle.explicit_black.specs.Laws.ZeroPrice.{zeroOf, plusZero-is, refuted, zeros, zero-from-price}
+use Rattle.explicit_black.specs.Laws.ZeroPrice.{zero-from-price}
 use Rattle.explicit_black.specs.Laws.Powers.{comparable-pair, comparable, four-times}
 
 -- ---- times: both zero, or both finite and above zero
@@ -210,8 +212,8 @@ clear-or-zero (fin true m e) b h =
 zero-after-tests : (call : Bool) (p f k t : Float) → T (fits binary64 p) → T (finite p) → num p ≡ 0
     → afterTests call p f k t ≡ afterTests call (zeroOf false) f k t
 zero-after-tests call p f k t F b e =
-    let (s, i) = zeros p F b e in
-    ap (λ (q : Float). afterTests call q f k t) i
+    let s = isSignMinus p in
+    ap (λ (q : Float). afterTests call q f k t) (zero-is p F b e)
     ∙ zero-from-price s (cond call (f ⊖ k) (k ⊖ f)) (cond call f k) (sqrt f ⊗ sqrt k) (negativeAbsLogMoneyness f k) t
 
 zero-plain : Plain (zeroOf false)

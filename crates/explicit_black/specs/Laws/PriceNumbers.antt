@@ -1,11 +1,11 @@
 -- No price is NaN (REQUIREMENTS 14.1): what is not refused has a price that is a number, although it may be infinite. And the case s = 0 of the definition
 -- is what its formula gives there. Assumes nothing.
 use mathlib.Core.Path.{_≡_, refl, sym, ap, _∙_, subst}
-use Prim.Native.Nat.{ℕ, zero, suc, _+_, _*_}
-use native.Mathlib.Nat.{zero-add, zero-mul, one-mul, mul-zero, mul-one, mul-pos, zero-lt-suc}
+use Prim.Native.Nat.{ℕ, zero, suc, _*_}
+use native.Mathlib.Nat.{mul-zero, mul-pos}
 use mathlib.Core.Bool.{Bool, true, false, cond, true≢false, false≢true}
-use lib.Dec.{T, eqb, eqb·suc-zero, lt→ltb}
-use lib.Ieee.{Float, nan, inf, fin, binary64, up, down, unlike, sum, add, div, lt, eq, isNan, fits, ofBits}
+use lib.Dec.{T, eqb, eqb·suc-zero}
+use lib.Ieee.{Float, nan, inf, fin, binary64, unlike, add, div, lt, eq, isNan, fits, ofBits}
 use lib.Ieee.Fits.{sub-fits}
 use lib.Ieee.Bits.{is-true, ofBits-fits}
 use lib.Ieee.Scale.{finite}
@@ -13,17 +13,17 @@ use lib.Ieee.Positive.{num, den, den-pos, positive, positive-finite}
 use Rattle.arithmetic.specs.Operations.{_⊕_, _⊖_, _⊗_, _⊘_, bits, plusZero, two}
 use Rattle.arithmetic.specs.Basic.{isSignMinus, isFinite}
 use Rattle.arithmetic.specs.Sqrt.{sqrt}
-use Rattle.arithmetic.specs.Laws.Choices.{in-both, by-test}
-use Rattle.arithmetic.specs.Laws.Times.{positive-sign, positive-value}
-use Rattle.arithmetic.specs.Laws.Compare.{finite-no-nan}
-use Rattle.arithmetic.specs.Laws.Sums.{add-is, sub-finite}
+use Rattle.arithmetic.specs.Laws.Choices.{in-both, by-test, refuted}
+use Rattle.arithmetic.specs.Laws.Times.{positive-sign}
+use Rattle.arithmetic.specs.Laws.Compare.{lt-positive, finite-no-nan}
+use Rattle.arithmetic.specs.Laws.Sums.{sub-finite}
 use Rattle.arithmetic.specs.Laws.Products.{mul-is}
-use Rattle.arithmetic.specs.Laws.Representable.{round-self}
 use Rattle.arithmetic.specs.Laws.Bounds.{round-to-zero}
-use Rattle.arithmetic.specs.Laws.Sizes.{apart-by, sum-size, sum-alike}
+use Rattle.arithmetic.specs.Laws.Sizes.{apart-by, sum-size}
 use Rattle.arithmetic.specs.Laws.Quotients.{round-no-nan}
 use Rattle.arithmetic.specs.Laws.ScaledProducts.{zero-num}
 use Rattle.arithmetic.specs.Laws.SqrtBounds.{roots-positive}
+use Rattle.arithmetic.specs.Laws.Zeros.{zeroOf, plusZero-is, zero-is, zero-plus}
 use Rattle.bs_option_price.specs.BsOptionPrice.{normalisedBlack}
 use Rattle.bs_option_price.specs.Laws.MoneynessBounds.{PositiveValue}
 use Rattle.bs_option_price.specs.Laws.NoNan.{time-value-no-nan}
@@ -31,7 +31,6 @@ use Rattle.explicit_black.specs.Quote.{firstRefusal, intrinsicValue}
 use Rattle.explicit_black.specs.Price.{price, priceRefusal, timeValue, priceOf, blackPrice}
 use Rattle.explicit_black.specs.Laws.Quote.{Domain, passed, time-positive}
 use Rattle.explicit_black.specs.Laws.Price.{price-is}
-use Rattle.explicit_black.specs.Laws.ZeroPrice.{zeroOf, plusZero-is, refuted, zeros}
 
 -- ---- sums and products that are numbers
 add-no-nan : (v i : Float) → isNan v ≡ false → T (finite i) → isNan (v ⊕ i) ≡ false
@@ -62,12 +61,8 @@ zero-equal true = refl
 zero-equal false = refl
 
 above-positive : (x : Float) → isFinite x ≡ true → lt plusZero x ≡ true → T (positive x)
-unfolding lt ofBits
-above-positive nan p l = absurd (false≢true p)
-above-positive (inf s) p l = absurd (false≢true p)
-above-positive (fin true m e) p l = absurd (false≢true l)
-above-positive (fin false zero e) p l = absurd (true≢false (sym l ∙ rw (zero-mul (up e), zero-mul (down e))))
-above-positive (fin false (suc m) e) p l = lt→ltb 0 (suc m) (zero-lt-suc m)
+unfolding ofBits
+above-positive x p l = lt-positive plusZero x tt refl (subst T (sym p) tt) l
 
 -- ---- at time zero s is 0
 root-of-zero : (s : Bool) → sqrt (zeroOf s) ≡ zeroOf s
@@ -76,7 +71,8 @@ root-of-zero s = refl
 
 zero-time : (v t : Float) → T (finite v) → T (finite t) → T (fits binary64 t) → eq t plusZero ≡ true → eq (v ⊗ sqrt t) plusZero ≡ true
 zero-time v t p q F e =
-    let (s, i) = zeros t F q (zero-num t q (subst T (sym e) tt)) in
+    let s = isSignMinus t in
+    let i : t ≡ zeroOf s = zero-is t F q (zero-num t q (subst T (sym e) tt)) in
     ap (λ (z : Float). eq (v ⊗ z) plusZero) (ap sqrt i ∙ root-of-zero s)
     ∙ ap (λ (z : Float). eq z plusZero) (zero-product v s p)
     ∙ zero-equal (unlike (isSignMinus v) s)
@@ -157,20 +153,18 @@ half-of-zero false = refl
 value-at-zero : (f k s : Float) → PositiveValue f → PositiveValue k → T (fits binary64 s) → T (finite s) → T (eq s plusZero) → timeValue f k s ≡ plusZero
 unfolding timeValue normalisedBlack
 value-at-zero f k s o q F p e =
-    let (b, i) = zeros s F p (zero-num s p e) in
+    let b = isSignMinus s in
+    let i : s ≡ zeroOf b = zero-is s F p (zero-num s p e) in
     let r = sqrt f ⊗ sqrt k in
     let above = roots-positive f k (o .above) (o .held) (q .above) (q .held) in
     rw (i, half-of-zero b, plusZero-is) (zero-product r false (positive-finite r above) ∙ ap (λ (u : Bool). zeroOf (unlike u false)) (positive-sign r above))
 
 zero-sum : (i : Float) → T (positive i) → T (fits binary64 i) → plusZero ⊕ i ≡ i
-zero-sum i p F =
-    let a = 0 * den i + num i * 1 in
-    let value : num i * (1 * den i) ≡ a * den i = rw (one-mul (den i), zero-mul (den i), zero-add (num i * 1), mul-one (num i)) refl in
-    ap (λ (z : Float). z ⊕ i) plusZero-is
-    ∙ add-is binary64 (zeroOf false) i tt (positive-finite i p)
-    ∙ ap (λ (t : Bool). sum binary64 false (0 * den i) t (num i * 1) (1 * den i)) (positive-sign i p)
-    ∙ sum-alike false (0 * den i) (num i * 1) (1 * den i)
-    ∙ round-self binary64 i false a (1 * den i) (rw (one-mul (den i)) (den-pos i)) F (positive-value i a (1 * den i) p value)
+zero-sum nan p F = absurd p
+zero-sum (inf s) p F = absurd p
+zero-sum (fin true m e) p F = absurd p
+zero-sum (fin false zero e) p F = absurd p
+zero-sum (fin false (suc m) e) p F = ap (λ (z : Float). z ⊕ fin false (suc m) e) plusZero-is ∙ zero-plus false false m e F
 
 pub formula-at-zero : (side : ℕ) (f k s : Float) → PositiveValue f → PositiveValue k → T (fits binary64 s) → T (finite s) → T (eq s plusZero) →
     let i = intrinsicValue side f k in

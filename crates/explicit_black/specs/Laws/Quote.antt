@@ -20,6 +20,7 @@ use Rattle.arithmetic.specs.Laws.Compare.{finite-no-nan}
 use Rattle.arithmetic.specs.Laws.ScaledRatios.{PositiveNormal}
 use Rattle.arithmetic.specs.Laws.SqrtBounds.{sqrt-positive}
 use Rattle.arithmetic.specs.Laws.Quotients.{div-no-nan, two-over-root}
+use Rattle.arithmetic.specs.Laws.Zeros.{plusZero-is}
 use Rattle.bs_option_price.specs.BsOptionPrice.{negativeAbsLogMoneyness}
 use Rattle.explicit_black.specs.Counted.{Counted, atOnce}
 use Rattle.explicit_black.specs.Quote.{Outcome, total, refused, Reply, answer, refusal, reply, replyOf, volatility}
@@ -29,7 +30,7 @@ use Rattle.explicit_black.specs.Demand.{compared}
 use Rattle.explicit_black.specs.Laws.Tests.{from-price-is}
 use Rattle.explicit_black.specs.Laws.Kinds.{Kind, normalised-kind, from-price-kind}
 use Rattle.explicit_black.specs.Laws.Kinds.{total-at-once, refused-at-once, total-at-root, refused-no-root}
-use Rattle.explicit_black.specs.Laws.ZeroPrice.{plusZero-is, bound-above, or-right}
+use Rattle.explicit_black.specs.Laws.ZeroPrice.{bound-above, or-right}
 
 -- ---- what holds of an outcome of each kind
 kind-count : (c : Counted Outcome) → Kind c → c .count ≤ 2263

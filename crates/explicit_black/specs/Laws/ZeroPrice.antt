@@ -1,52 +1,29 @@
 -- A price of -0 is answered as a price of +0 by both entries, whatever the side and the other figures are. Assumes nothing.
 use mathlib.Core.Path.{_≡_, refl, sym, ap, _∙_, subst}
 use Prim.Native.Nat.{ℕ, zero, suc, _+_, _-_, _*_, _^_, _<_}
-use native.Mathlib.Nat.{zero-mul, mul-one, one-mul, add-zero, mul-pos, lt-irrefl, zero-lt-suc, eq-of-mul-eq-mul-right}
+use native.Mathlib.Nat.{zero-mul, mul-one, add-zero, mul-pos, zero-lt-suc, eq-of-mul-eq-mul-right}
 use native.Mathlib.Omega.{arith}
 use mathlib.Core.Bool.{Bool, true, false, _&&_, _||_, Bool·beq, cond, or-true, false≢true}
-use lib.IntN.{pos, negsuc}
-use lib.Dec.{T, not-T, eqb, ltb, eqb→eq, ltb→lt, lt→ltb, leb·suc-zero, eqb·suc-zero}
+use lib.Dec.{T, eqb, ltb, eqb→eq, ltb→lt, lt→ltb, leb·suc-zero, eqb·suc-zero}
 use lib.Pow.{pow-pos}
-use lib.Ieee.{Float, nan, inf, fin, binary64, low, prec, emax, up, down, unlike, fits, le, lt, eq, sub, div, sum, round, below, level, ofBits}
+use lib.Ieee.{Float, nan, inf, fin, binary64, low, prec, emax, up, down, unlike, le, lt, eq, sub, div, sum, round, below, level, ofBits}
 use lib.Ieee.Fits.{up-pos}
-use lib.Ieee.Bits.{is-true, is-false}
+use lib.Ieee.Bits.{is-true}
 use lib.Ieee.Exact.{HasValue, round-exact}
 use lib.Ieee.Scale.{finite}
 use lib.Ieee.Positive.{num, den, den-pos}
 use Rattle.arithmetic.specs.Operations.{_⊖_, _⊗_, _⊘_, bits, plusZero, minPositive}
 use Rattle.arithmetic.specs.Basic.{isSignMinus, max}
 use Rattle.arithmetic.specs.Sqrt.{sqrt}
+use Rattle.arithmetic.specs.Laws.Choices.{refuted}
 use Rattle.arithmetic.specs.Laws.Times.{has-finite, cross}
 use Rattle.arithmetic.specs.Laws.Compare.{lt-is, eq-is}
 use Rattle.arithmetic.specs.Laws.ScaledRatios.{PositiveNormal, plus, num-above}
+use Rattle.arithmetic.specs.Laws.Zeros.{zeroOf}
 use Rattle.bs_option_price.specs.BsOptionPrice.{negativeAbsLogMoneyness}
 use Rattle.explicit_black.specs.Counted.{atOnce}
 use Rattle.explicit_black.specs.Quote.{total, fromNormalisedPrice, impliedBlackVolatilityNormalised, firstRefusal, intrinsicValue, priceBound}
 use Rattle.explicit_black.specs.Quote.{fromTimeValue, fromPrice, fromQuote, impliedBlackVolatilityInput}
-
--- the two zeros
-abbrev pub zeroOf : Bool → Float
-zeroOf s = fin s 0 (pos 0)
-
-pub plusZero-is : plusZero ≡ zeroOf false
-unfolding ofBits
-plusZero-is = refl
-
-pub refuted : (b : Bool) → (T b → ⊥) → b ≡ false
-refuted b n = is-false b (not-T b n)
-
--- ---- a zero that fits is one of the two
-no-power : (k : ℕ) → 2 ^ suc k ≡ 1 → ⊥
-no-power k e = let h : 0 < 2 ^ k = pow-pos k in omega arith
-
-pub zeros : (p : Float) → T (fits binary64 p) → T (finite p) → num p ≡ 0 → (s : Bool) × (p ≡ zeroOf s)
-unfolding fits
-zeros nan F h e = absurd h
-zeros (inf s) F h e = absurd h
-zeros (fin s (suc m) q) F h e = absurd (lt-irrefl 0 (subst (λ (z : ℕ). 0 < z) e (mul-pos (zero-lt-suc m) (up-pos q))))
-zeros (fin s zero (pos zero)) F h e = (s, refl)
-zeros (fin s zero (pos (suc k))) F h e = absurd (no-power k (sym (mul-one (2 ^ suc k)) ∙ eqb→eq (2 ^ suc k * 1) 1 F))
-zeros (fin s zero (negsuc k)) F h e = absurd (no-power k (sym (one-mul (2 ^ suc k)) ∙ eqb→eq (1 * 2 ^ suc k) 1 F))
 
 -- ---- comparisons with a zero
 eq-zero : (s : Bool) (x : Float) → eq (zeroOf s) x ≡ eq (zeroOf false) x

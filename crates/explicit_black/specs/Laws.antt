@@ -2,6 +2,7 @@
 pub mod Counted
 pub mod Counts
 pub mod Demand
+pub mod Guards
 pub mod Kinds
 pub mod Powers
 pub mod Price

@@ -1,4 +1,4 @@
--- What layer four computes (REQUIREMENTS 10, 14.1), and what is proved of it. The files here are the definitions that its contracts and theorems promise,
+-- What layer four computes (REQUIREMENTS 10, 14), and what is proved of it. The files here are the definitions that its contracts and theorems promise,
 -- in the order in which they build on each other: a reader has to believe these. Internal says what the code's own types stand for.
 -- Laws has facts about the definitions, each proved. Keystrokes and PriceExamples have values that the definitions compute.
 pub mod Counted
@@ -12,6 +12,7 @@ pub mod Quote
 pub mod Price
 pub mod Replies
 pub mod Demand
+pub mod Guards
 pub mod Internal
 pub mod Laws
 pub mod Keystrokes

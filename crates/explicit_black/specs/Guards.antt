@@ -1,0 +1,74 @@
+-- The two branches of `from_call_price` on its probability, `probability <= 0` and `probability >= 1` (REQUIREMENTS 14.2), and the entries of Quote.antt with
+-- anything in their place: `by` says what follows from probability and mu where the price is 1.0e-5 of its bound at least. Definitions only.
+use mathlib.Core.Bool.{_&&_, cond}
+use Prim.Native.Nat.{ℕ}
+use lib.Dec.{eqb}
+use lib.Ieee.{Float, neg, lt, le, eq}
+use Rattle.arithmetic.specs.Operations.{_⊖_, _⊗_, _⊘_, bits, plusZero, half, one, two, minPositive, infinity}
+use Rattle.arithmetic.specs.Basic.{abs, isFinite}
+use Rattle.arithmetic.specs.Sqrt.{sqrt}
+use Rattle.arithmetic.specs.Exp.{exp}
+use Rattle.bs_option_price.specs.BsOptionPrice.{negativeAbsLogMoneyness}
+use Rattle.explicit_black.specs.Counted.{Counted, atOnce, orElse}
+use Rattle.explicit_black.specs.Quantile.{inverseGaussianQuantile}
+use Rattle.explicit_black.specs.Survival.{inverseGaussianQuantileFromSurvival}
+use Rattle.explicit_black.specs.Quote.{Outcome, total, refused, Reply, reply, atTheMoney, searched}
+use Rattle.explicit_black.specs.Quote.{firstRefusal, intrinsicValue, priceBound, normalisedTimeValue, boundTests}
+
+-- the two branches, with `low` and `high` for what they hand back, then the search
+abbrev pub guardedBy : Counted Outcome → Counted Outcome → Float → Float → Counted Outcome
+guardedBy low high probability mu =
+    cond (le probability plusZero) low
+    (cond (le one probability) high
+    (searched (inverseGaussianQuantile probability mu)))
+
+-- as in `fromCallPrice`
+abbrev pub guarded : Float → Float → Counted Outcome
+guarded = guardedBy (atOnce (total infinity)) (atOnce (total plusZero))
+
+-- the search alone
+abbrev pub unguarded : Float → Float → Counted Outcome
+unguarded probability mu = searched (inverseGaussianQuantile probability mu)
+
+-- 1.0e-5: a price below that fraction of its bound is searched for by the survival probability
+abbrev pub survivalThreshold : Float
+survivalThreshold = bits 0x3EE4_F8B5_88E3_68F1
+
+-- the bound of a normalised price
+abbrev pub bMaxOf : Float → Float
+bMaxOf logMoneyness = exp (neg half ⊗ abs logMoneyness)
+
+unfoldable pub fromCallPriceBy : (Float → Float → Counted Outcome) → Float → Float → Counted Outcome
+fromCallPriceBy by otmCallPrice mu =
+    cond (lt otmCallPrice survivalThreshold)
+    (searched (inverseGaussianQuantileFromSurvival otmCallPrice mu))
+    (by (one ⊖ otmCallPrice) mu)
+
+unfoldable pub fromNormalisedPriceBy : (Float → Float → Counted Outcome) → Float → Float → Counted Outcome
+fromNormalisedPriceBy by logMoneyness price =
+    let absX = abs logMoneyness in
+    let bMax = bMaxOf logMoneyness in
+    cond (le price plusZero) (atOnce (cond (eq price plusZero) (total plusZero) (refused 7)))
+    (cond (le bMax price) (atOnce (cond (eq price bMax) (total infinity) (refused 8)))
+    (cond (eq absX plusZero) (atOnce (atTheMoney price))
+    (fromCallPriceBy by (price ⊘ bMax) (two ⊘ absX))))
+
+unfoldable pub impliedBlackVolatilityNormalisedBy : (Float → Float → Counted Outcome) → Float → Float → Reply
+impliedBlackVolatilityNormalisedBy by logMoneyness price =
+    reply one (cond (isFinite logMoneyness && isFinite price) (fromNormalisedPriceBy by logMoneyness price) (atOnce (refused 2)))
+
+unfoldable pub fromTimeValueBy : (Float → Float → Counted Outcome) → Float → Float → Counted Outcome
+fromTimeValueBy by logMoneyness timeValue =
+    cond (le timeValue minPositive) (atOnce (cond (le plusZero timeValue) (total plusZero) (refused 7)))
+    (fromNormalisedPriceBy by logMoneyness timeValue)
+
+unfoldable pub impliedBlackVolatilityInputBy : (Float → Float → Counted Outcome) → ℕ → Float → Float → Float → Float → Reply
+impliedBlackVolatilityInputBy by side price forward strike time =
+    let number = firstRefusal side price forward strike time in
+    let intrinsic = intrinsicValue side forward strike in
+    let bound = priceBound side forward strike in
+    let timeValue = normalisedTimeValue price intrinsic (sqrt forward ⊗ sqrt strike) in
+    reply time
+    (cond (eqb number 0)
+    (orElse (boundTests price intrinsic bound time) (fromTimeValueBy by (negativeAbsLogMoneyness forward strike) timeValue))
+    (atOnce (refused number)))

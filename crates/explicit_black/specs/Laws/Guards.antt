@@ -1,0 +1,226 @@
+-- THE GUARDS AROUND PROBABILITY (REQUIREMENTS 14.2): the two branches of `from_call_price` are never taken, so each entry, at any bits, replies as it would
+-- with anything in their place, and without them. A normalised price's bound is 1 at most. Assumes nothing.
+use mathlib.Core.Path.{_≡_, refl, sym, ap, _∙_, subst}
+use mathlib.Core.Logic.{inl, inr}
+use Prim.Native.Nat.{ℕ, _*_, _^_, _≤_}
+use native.Mathlib.Nat.{zero-mul}
+use native.Mathlib.Omega.{arith}
+use mathlib.Core.Bool.{Bool, true, false, _&&_, cond, true≢false, false≢true}
+use borrow.Author.Tests.{ltb-false}
+use lib.Dec.{T, eqb, lit≤}
+use lib.Ieee.{Float, nan, inf, fin, binary64, up, down, neg, sub, mul, div, lt, le, eq, isNan, fits, ofBits}
+use lib.Ieee.Fits.{mul-fits, div-fits}
+use lib.Ieee.Scale.{finite}
+use lib.Ieee.Positive.{num, den, positive}
+use Rattle.arithmetic.specs.Operations.{_⊖_, _⊗_, _⊘_, bits, plusZero, half, one, two, minPositive, infinity}
+use Rattle.arithmetic.specs.Basic.{isSignMinus, abs, isFinite}
+use Rattle.arithmetic.specs.Sqrt.{sqrt}
+use Rattle.arithmetic.specs.Exp.{exp}
+use Rattle.arithmetic.specs.Laws.Choices.{on-false}
+use Rattle.arithmetic.specs.Laws.Compare.{lt-is, not-le, lt-positive, finite-no-nan}
+use Rattle.arithmetic.specs.Laws.Times.{positive-sign}
+use Rattle.arithmetic.specs.Laws.Bounds.{AtMost, lt-not-le}
+use Rattle.arithmetic.specs.Laws.PowerBounds.{Small, small-le}
+use Rattle.arithmetic.specs.Laws.ExpFits.{exp-fits}
+use Rattle.arithmetic.specs.Laws.ExpBounds.{exp-minus}
+use Rattle.arithmetic.specs.Laws.UnitInterval.{nextDownOne, quotient-below-one, below-one-le, Inner, at-most-inner, complement}
+use Rattle.arithmetic.specs.Laws.UnitInterval.{zero-parts, inner-above, inner-below}
+use Rattle.bs_option_price.specs.BsOptionPrice.{negativeAbsLogMoneyness}
+use Rattle.bs_option_price.specs.Laws.NoNan.{minus-half}
+use Rattle.explicit_black.specs.Counted.{Counted, atOnce, orElse}
+use Rattle.explicit_black.specs.Quote.{Outcome, total, refused, reply, fromCallPrice, fromNormalisedPrice, impliedBlackVolatilityNormalised}
+use Rattle.explicit_black.specs.Quote.{firstRefusal, intrinsicValue, priceBound, boundTests, normalisedTimeValue}
+use Rattle.explicit_black.specs.Quote.{fromTimeValue, fromPrice, fromQuote, impliedBlackVolatilityInput}
+use Rattle.explicit_black.specs.Guards.{guardedBy, guarded, unguarded, survivalThreshold, bMaxOf, fromCallPriceBy, fromNormalisedPriceBy}
+use Rattle.explicit_black.specs.Guards.{impliedBlackVolatilityNormalisedBy, fromTimeValueBy, impliedBlackVolatilityInputBy}
+
+-- ---- neither branch is taken at the price q, as a fraction of its bound
+abbrev pub NotTaken : Float → Type 0
+NotTaken q = lt q survivalThreshold ≡ false → (le (one ⊖ q) plusZero ≡ false) × (le one (one ⊖ q) ≡ false)
+
+threshold-parts : (isSignMinus survivalThreshold ≡ false) × T (finite survivalThreshold)
+unfolding ofBits
+threshold-parts = (refl, tt)
+
+threshold-cross : (n d : ℕ) → num survivalThreshold * d ≤ n * den survivalThreshold → d ≤ n * 2 ^ 53
+unfolding ofBits
+threshold-cross n d h = omega arith
+
+at-most-not-taken : (q : Float) → AtMost false nextDownOne q → NotTaken q
+at-most-not-taken q h e =
+    let c : num survivalThreshold * den q ≤ num q * den survivalThreshold =
+    ltb-false (num q * den survivalThreshold) (num survivalThreshold * den q)
+    (sym (lt-is q survivalThreshold (h .is-finite) (threshold-parts .1) ∙ rw (h .sign, threshold-parts .0) refl) ∙ e) in
+    let i : Inner 53 (one ⊖ q) = complement 53 (lit≤ tt) q (at-most-inner q h (threshold-cross (num q) (den q) c)) in
+    (inner-above (one ⊖ q) i, inner-below (one ⊖ q) i)
+
+nan-not-taken : NotTaken nan
+unfolding sub le ofBits
+nan-not-taken e = (refl, refl)
+
+-- ---- the bound of a normalised price is 1 at most
+minus-half-abs : (x : Float) → isNan x ≡ false → isSignMinus (neg half ⊗ abs x) ≡ true
+unfolding isNan abs
+minus-half-abs nan n = absurd (true≢false n)
+minus-half-abs (inf s) n = minus-half (inf false) (inr refl)
+minus-half-abs (fin s m e) n = minus-half (fin false m e) (inl (tt, refl))
+
+b-max-small : (x : Float) → isNan x ≡ false → Small 0 (bMaxOf x)
+b-max-small x n = exp-minus (neg half ⊗ abs x) (mul-fits binary64 (neg half) (abs x)) (minus-half-abs x n)
+
+pub b-max-at-most-one : (x : Float) → isNan x ≡ false → T (le (bMaxOf x) one)
+b-max-at-most-one x n = small-le (bMaxOf x) (b-max-small x n)
+
+b-max-nan : bMaxOf nan ≡ nan
+unfolding abs mul exp neg ofBits
+b-max-nan = refl
+
+-- ---- a price that passes the tests before, over its bound
+nan-over : (b : Float) → nan ⊘ b ≡ nan
+unfolding div
+nan-over b = refl
+
+over-nan : (p : Float) → p ⊘ nan ≡ nan
+unfolding div
+over-nan nan = refl
+over-nan (inf s) = refl
+over-nan (fin s m e) = refl
+
+share-at-most : (p b : Float) → T (fits binary64 p) → T (fits binary64 b) → T (finite p) → T (finite b) → le p plusZero ≡ false → le b p ≡ false
+    → AtMost false nextDownOne (p ⊘ b)
+share-at-most p b F G s t h g =
+    let P : T (positive p) = lt-positive plusZero p (zero-parts .3) (zero-parts .2) s (not-le p plusZero s (zero-parts .3) h) in
+    let less : lt p b ≡ true = not-le b p t s g in
+    quotient-below-one p b F G P (lt-positive p b s (positive-sign p P) t less) less
+
+over-finite : (p b : Float) → T (fits binary64 p) → T (fits binary64 b) → T (finite b) → le p plusZero ≡ false → le b p ≡ false → NotTaken (p ⊘ b)
+unfolding le lt ofBits
+over-finite nan b F G t h g = subst NotTaken (sym (nan-over b)) nan-not-taken
+over-finite (inf true) b F G t h g = absurd (true≢false h)
+over-finite (inf false) b F G t h g = absurd (go b t g)
+  where
+    go : (b : Float) → T (finite b) → le b (inf false) ≡ false → ⊥
+    go nan t g = t
+    go (inf s) t g = t
+    go (fin s m e) t g = true≢false g
+over-finite (fin s m e) b F G t h g = at-most-not-taken (fin s m e ⊘ b) (share-at-most (fin s m e) b F G tt t h g)
+
+number-not-taken : (x p : Float) → isNan x ≡ false → T (fits binary64 p) → le p plusZero ≡ false → le (bMaxOf x) p ≡ false → NotTaken (p ⊘ bMaxOf x)
+number-not-taken x p n F h g = over-finite p (bMaxOf x) F (exp-fits (neg half ⊗ abs x)) (b-max-small x n .is-finite) h g
+
+share-not-taken : (x p : Float) → T (fits binary64 p) → le p plusZero ≡ false → le (bMaxOf x) p ≡ false → NotTaken (p ⊘ bMaxOf x)
+unfolding isNan
+share-not-taken nan p F h g = subst NotTaken (sym (ap (λ (b : Float). p ⊘ b) b-max-nan ∙ over-nan p)) nan-not-taken
+share-not-taken (inf s) p F h g = number-not-taken (inf s) p refl F h g
+share-not-taken (fin s m e) p F h g = number-not-taken (fin s m e) p refl F h g
+
+-- ---- ANYTHING IN PLACE OF THE BRANCHES
+-- `by` does as the two branches and the search do, at a probability that is neither at most 0 nor at least 1
+abbrev pub Agrees : (Float → Float → Counted Outcome) → Type 0
+Agrees by = (probability mu : Float) → le probability plusZero ≡ false → le one probability ≡ false → by probability mu ≡ guarded probability mu
+
+module _ (by : Float → Float → Counted Outcome) (A : Agrees by) where
+  call-price-by : (q mu : Float) → NotTaken q → fromCallPriceBy by q mu ≡ fromCallPrice q mu
+  unfolding fromCallPriceBy fromCallPrice
+  call-price-by q mu t = on-false (lt q survivalThreshold) _ (λ e. A (one ⊖ q) mu (t e .0) (t e .1))
+
+  normalised-price-by : (x p : Float) → T (fits binary64 p) → fromNormalisedPriceBy by x p ≡ fromNormalisedPrice x p
+  unfolding fromNormalisedPriceBy fromNormalisedPrice
+  normalised-price-by x p F =
+      on-false (le p plusZero) _ (λ h.
+      on-false (le (bMaxOf x) p) _ (λ g.
+      on-false (eq (abs x) plusZero) _ (λ e.
+      call-price-by (p ⊘ bMaxOf x) (two ⊘ abs x) (share-not-taken x p F h g))))
+
+  -- of the normalised entry, at any bits
+  pub normalised-by : (x p : Float) → T (fits binary64 p) → impliedBlackVolatilityNormalisedBy by x p ≡ impliedBlackVolatilityNormalised x p
+  unfolding impliedBlackVolatilityNormalisedBy impliedBlackVolatilityNormalised
+  normalised-by x p F = ap (λ (c : Counted Outcome). reply one (cond (isFinite x && isFinite p) c (atOnce (refused 2)))) (normalised-price-by x p F)
+
+  time-value-by : (x v : Float) → T (fits binary64 v) → fromTimeValueBy by x v ≡ fromTimeValue x v
+  unfolding fromTimeValueBy fromTimeValue
+  time-value-by x v F = on-false (le v minPositive) _ (λ e. normalised-price-by x v F)
+
+  -- and of the quote entry, whatever the side
+  pub input-by : (side : ℕ) (p f k t : Float) → impliedBlackVolatilityInputBy by side p f k t ≡ impliedBlackVolatilityInput side p f k t
+  unfolding impliedBlackVolatilityInputBy impliedBlackVolatilityInput fromQuote fromPrice
+  input-by side p f k t =
+      let intrinsic = intrinsicValue side f k in
+      let number = firstRefusal side p f k t in
+      ap (λ (c : Counted Outcome). reply t (cond (eqb number 0) (orElse (boundTests p intrinsic (priceBound side f k) t) c) (atOnce (refused number))))
+      (time-value-by (negativeAbsLogMoneyness f k) (normalisedTimeValue p intrinsic (sqrt f ⊗ sqrt k)) (div-fits binary64 _ _))
+
+-- ---- WITHOUT THE BRANCHES, and with any outcomes in them
+unguarded-agrees : Agrees unguarded
+unguarded-agrees probability mu h g = rw (h, g) refl
+
+pub normalised-unguarded : (x p : Float) → T (fits binary64 p) → impliedBlackVolatilityNormalisedBy unguarded x p ≡ impliedBlackVolatilityNormalised x p
+normalised-unguarded = normalised-by unguarded unguarded-agrees
+
+pub input-unguarded : (side : ℕ) (p f k t : Float) → impliedBlackVolatilityInputBy unguarded side p f k t ≡ impliedBlackVolatilityInput side p f k t
+input-unguarded = input-by unguarded unguarded-agrees
+
+replaced-agrees : (low high : Counted Outcome) → Agrees (guardedBy low high)
+replaced-agrees low high probability mu h g = rw (h, g) refl
+
+pub input-replaced : (low high : Counted Outcome) (side : ℕ) (p f k t : Float)
+    → impliedBlackVolatilityInputBy (guardedBy low high) side p f k t ≡ impliedBlackVolatilityInput side p f k t
+input-replaced low high = input-by (guardedBy low high) (replaced-agrees low high)
+
+-- ---- A PRICE BETWEEN 0 AND ITS BOUND, at a finite log-moneyness other than 0. `b-max-at-most-one` says that the bound is 1 at most
+pub record WithinBound (x p : Float) : Type 0 where
+  pub share : T (le (p ⊘ bMaxOf x) nextDownOne)
+  pub not-taken : NotTaken (p ⊘ bMaxOf x)
+  pub same : fromNormalisedPrice x p ≡ fromCallPriceBy unguarded (p ⊘ bMaxOf x) (two ⊘ abs x)
+
+abs-zero : (x : Float) → eq (abs x) plusZero ≡ eq x plusZero
+unfolding abs eq ofBits
+abs-zero nan = refl
+abs-zero (inf s) = refl
+abs-zero (fin false m e) = refl
+abs-zero (fin true m e) = rw (zero-mul (down e)) (and-self (eqb (m * up e * 1) 0))
+  where
+    and-self : (b : Bool) → (b && true) ≡ (b && b)
+    and-self true = refl
+    and-self false = refl
+
+under-finite : (p b : Float) → lt plusZero p ≡ true → lt p b ≡ true → T (finite p)
+unfolding lt ofBits
+under-finite nan b a u = absurd (false≢true a)
+under-finite (inf true) b a u = absurd (false≢true a)
+under-finite (inf false) nan a u = absurd (false≢true u)
+under-finite (inf false) (inf s) a u = absurd (false≢true u)
+under-finite (inf false) (fin s m e) a u = absurd (false≢true u)
+under-finite (fin s m e) b a u = tt
+
+pub within-bound : (x p : Float) → T (fits binary64 p) → T (finite x) → eq x plusZero ≡ false → lt plusZero p ≡ true → lt p (bMaxOf x) ≡ true
+    → WithinBound x p
+unfolding fromNormalisedPrice
+within-bound x p F n z a u =
+    let b = bMaxOf x in
+    let q = p ⊘ b in
+    let s : T (finite p) = under-finite p b a u in
+    let t : T (finite b) = b-max-small x (finite-no-nan x n) .is-finite in
+    let P : T (positive p) = lt-positive plusZero p (zero-parts .3) (zero-parts .2) s a in
+    let B : T (positive b) = lt-positive p b s (positive-sign p P) t u in
+    let most : AtMost false nextDownOne q = quotient-below-one p b F (exp-fits (neg half ⊗ abs x)) P B u in
+    record {
+      share = below-one-le q most;
+      not-taken = at-most-not-taken q most;
+      same =
+          rw (
+            lt-not-le plusZero p (zero-parts .3) s (zero-parts .2) (positive-sign p P) a,
+            lt-not-le p b s t (positive-sign p P) (positive-sign b B) u,
+            abs-zero x,
+            z,
+          ) (sym (call-price-by unguarded unguarded-agrees q (two ⊘ abs x) (at-most-not-taken q most)));
+    }
+
+-- 1 - 2 ^ -53 is reached, at a log-moneyness of 2 ^ -60; and a price that is its bound would take the first branch
+pub share-reached : nextDownOne ⊘ bMaxOf (bits 0x3C30_0000_0000_0000) ≡ nextDownOne
+unfolding abs neg mul exp div ofBits
+share-reached = refl
+
+pub bound-taken : (mu : Float) → fromCallPrice one mu ≡ atOnce (total infinity)
+unfolding fromCallPrice lt le sub ofBits
+bound-taken mu = refl

@@ -27,7 +27,7 @@ use Rattle.arithmetic.specs.Laws.ScaledRatios.{positive-zero}
 use Rattle.arithmetic.specs.Laws.Bounds.{AtMost, round-at-most, at-most-le, le-cross}
 use Rattle.arithmetic.specs.Laws.Sizes.{grain-held, round-upper, round-lower}
 
--- ---- x < y, both of at most q ones and some zeros in binary: x is y less 1 / (q + 1) of it at most
+-- ---- of two whole numbers a 2 ^ i < d 2 ^ j, with a and d of at most q, the first is at most q / (q + 1) times the second
 one-step : (n m u : ℕ) → n * u < m * u → n * u + u ≤ m * u
 one-step n m u h = let l : (n + 1) * u ≤ m * u = mul-le-mul-right u (omega (arith, lt-of-mul-lt-mul-right u h)) in omega arith
 
@@ -37,7 +37,7 @@ enough q x y u h g = let l : q * (x + u) ≤ q * y = mul-le-mul-left q g in omeg
 split : (d i j : ℕ) → i ≤ j → d * 2 ^ j ≡ d * 2 ^ (j - i) * 2 ^ i
 split d i j h = ap (λ (z : ℕ). d * 2 ^ z) (sym (back j i h)) ∙ ap (λ (z : ℕ). d * z) (pow-add 2 (j - i) i) ∙ sym (mul-assoc d (2 ^ (j - i)) (2 ^ i))
 
--- they differ by a step of the finer of the two at least, and x is q such steps at most
+-- they differ by the lower of the two powers at least, and the first is at most q times that power
 apart : (q a i d j : ℕ) → a ≤ q → d ≤ q → a * 2 ^ i < d * 2 ^ j → a * 2 ^ i * (q + 1) ≤ q * (d * 2 ^ j)
 apart q a i d j A D h = elim (lt-or-le i j) [
   | inl l ↦

@@ -7,13 +7,13 @@ use lib.IntN.{ℤ}
 use lib.Dec.{T}
 use lib.Ieee.{Float, nan, inf, fin, binary64, up, down, sum, add, sub, mul, div, neg, fits, ofBits}
 use lib.Ieee.Fits.{down-pos, neg-fits, div-fits}
-use lib.Ieee.Back.{whole-unique}
 use lib.Ieee.Scale.{finite}
-use Rattle.arithmetic.specs.Operations.{_⊕_, _⊖_, _⊗_, _⊘_, one, two}
-use Rattle.arithmetic.specs.Exp.{ln2Hi, ln2Lo, P1, P2, P3, P4, P5, reduced}
+use Rattle.arithmetic.specs.Operations.{_⊕_, _⊖_, _⊗_, one}
+use Rattle.arithmetic.specs.Exp.{ln2Hi, ln2Lo, reduced}
 use Rattle.arithmetic.specs.Laws.Bounds.{round-to-zero}
 use Rattle.arithmetic.specs.Laws.Sums.{add-is}
-use Rattle.arithmetic.specs.Laws.Zeros.{zeroOf, zero-plus, plus-zero}
+use Rattle.arithmetic.specs.Laws.Zeros.{zeroOf, zero-by-sign, zero-plus, plus-zero}
+use Rattle.arithmetic.specs.Laws.ExpBounds.{fraction, reduced-is}
 
 -- ---- a zero added to a zero
 sum-zeros : (u t : Bool) (c : ℕ) → 0 < c → (v : Bool) × (sum binary64 u 0 t 0 c ≡ zeroOf v)
@@ -63,25 +63,6 @@ unfolding mul ofBits
 k-low true = refl
 k-low false = refl
 
--- the quotient in `reduced`
-quotient : Float → Float
-quotient r =
-    let q = r ⊗ r in
-    let c = r ⊖ q ⊗ (P1 ⊕ q ⊗ (P2 ⊕ q ⊗ (P3 ⊕ q ⊗ (P4 ⊕ q ⊗ P5)))) in
-    (r ⊗ c) ⊘ (two ⊖ c)
-
-quotient-fits : (r : Float) → T (fits binary64 (quotient r))
-unfolding quotient
-quotient-fits r = div-fits binary64 _ _
-
-reduced-is : (x k : Float) → reduced x k ≡ one ⊖ ((k ⊗ ln2Lo ⊖ quotient (x ⊖ k ⊗ ln2Hi ⊖ k ⊗ ln2Lo)) ⊖ (x ⊖ k ⊗ ln2Hi))
-unfolding reduced quotient
-reduced-is x k = refl
-
-zero-is : (t : Bool) (e : ℤ) → T (fits binary64 (fin t 0 e)) → fin t 0 e ≡ zeroOf t
-unfolding fits
-zero-is t e F = whole-unique binary64 (fin t 0 e) (zeroOf t) t 0 F tt (refl, rw (zero-mul (up e), zero-mul (down e))) (refl, refl)
-
 of-zero : (t u v : Bool) → reduced (zeroOf t) (zeroOf u) ≡ reduced (zeroOf t) (zeroOf v)
 unfolding reduced add sub mul div neg ofBits
 of-zero true true true = refl
@@ -94,13 +75,13 @@ of-zero false false true = refl
 of-zero false false false = refl
 
 of-other : (t : Bool) (m : ℕ) (e : ℤ) → T (fits binary64 (fin t (suc m) e)) → (u : Bool)
-    → reduced (fin t (suc m) e) (zeroOf u) ≡ one ⊖ ((zeroOf u ⊖ quotient (fin t (suc m) e)) ⊖ fin t (suc m) e)
+    → reduced (fin t (suc m) e) (zeroOf u) ≡ one ⊖ ((zeroOf u ⊖ fraction (fin t (suc m) e)) ⊖ fin t (suc m) e)
 of-other t m e F u = reduced-is (fin t (suc m) e) (zeroOf u) ∙ rw (k-high u, k-low u, less-zero t m e F u, less-zero t m e F u) refl
 
 pub either-zero : (x : Float) → T (fits binary64 x) → T (finite x) → (u v : Bool) → reduced x (zeroOf u) ≡ reduced x (zeroOf v)
 either-zero nan F p u v = absurd p
 either-zero (inf s) F p u v = absurd p
-either-zero (fin t zero e) F p u v = rw (zero-is t e F) (of-zero t u v)
+either-zero (fin t zero e) F p u v = rw (zero-by-sign (fin t zero e) F p (zero-mul (up e))) (of-zero t u v)
 either-zero (fin t (suc m) e) F p u v =
     let x = fin t (suc m) e in
-    of-other t m e F u ∙ ap (λ (z : Float). one ⊖ z) (from-either u v (quotient x) (quotient-fits x) t m e F) ∙ sym (of-other t m e F v)
+    of-other t m e F u ∙ ap (λ (z : Float). one ⊖ z) (from-either u v (fraction x) (div-fits binary64 _ _) t m e F) ∙ sym (of-other t m e F v)

@@ -1,5 +1,5 @@
--- The two branches of `from_call_price` on its probability, `probability <= 0` and `probability >= 1` (REQUIREMENTS 14.2), and the entries of Quote.antt with
--- anything in their place: `by` says what follows from probability and mu where the price is 1.0e-5 of its bound at least. Definitions only.
+-- The two branches of `from_call_price` on its probability, `probability <= 0` and `probability >= 1` (REQUIREMENTS 14.2): the entries of Quote.antt with a
+-- function `by` of probability and mu in place of these branches and the search that follows them. Definitions only.
 use mathlib.Core.Bool.{_&&_, cond}
 use Prim.Native.Nat.{ℕ}
 use lib.Dec.{eqb}
@@ -16,21 +16,21 @@ use Rattle.explicit_black.specs.Quote.{Outcome, total, refused, Reply, r
 use Rattle.explicit_black.specs.Quote.{firstRefusal, intrinsicValue, priceBound, normalisedTimeValue, boundTests}
 
 -- the two branches, with `low` and `high` for what they hand back, then the search
-abbrev pub guardedBy : Counted Outcome → Counted Outcome → Float → Float → Counted Outcome
-guardedBy low high probability mu =
+abbrev pub guardedWith : Counted Outcome → Counted Outcome → Float → Float → Counted Outcome
+guardedWith low high probability mu =
     cond (le probability plusZero) low
     (cond (le one probability) high
     (searched (inverseGaussianQuantile probability mu)))
 
 -- as in `fromCallPrice`
 abbrev pub guarded : Float → Float → Counted Outcome
-guarded = guardedBy (atOnce (total infinity)) (atOnce (total plusZero))
+guarded = guardedWith (atOnce (total infinity)) (atOnce (total plusZero))
 
 -- the search alone
 abbrev pub unguarded : Float → Float → Counted Outcome
 unguarded probability mu = searched (inverseGaussianQuantile probability mu)
 
--- 1.0e-5: a price below that fraction of its bound is searched for by the survival probability
+-- 1.0e-5: where the price divided by b_max is below it, the quantile is searched for by the survival probability
 abbrev pub survivalThreshold : Float
 survivalThreshold = bits 0x3EE4_F8B5_88E3_68F1
 

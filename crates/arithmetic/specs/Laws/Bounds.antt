@@ -23,7 +23,7 @@ use Rattle.arithmetic.specs.Laws.Identities.{round-neg}
 use Rattle.arithmetic.specs.Laws.Choices.{refuted}
 use Rattle.arithmetic.specs.Laws.Compare.{lt-is}
 
--- ---- an order of two values above zero, as one of fractions
+-- ---- an order of two values with the sign +, as one of fractions
 pub le-cross : (x y : Float) → T (finite x) → T (finite y) → isSignMinus x ≡ false → isSignMinus y ≡ false → T (le x y)
     → num x * den y ≤ num y * den x
 unfolding le

@@ -1,4 +1,4 @@
--- Choices by a test: what holds of both sides holds of the one that is chosen. Assumes nothing.
+-- Choices by a test: what holds of both sides holds of the one that is chosen; and tests that cannot hold. Assumes nothing.
 use mathlib.Core.Path.{_≡_, refl}
 use mathlib.Core.Bool.{Bool, true, false, cond}
 use lib.Dec.{T, not-T}

@@ -1,5 +1,5 @@
--- Comparisons of two values and of 2 ^ k times each agree; of two finite values one is at most the other, or is above it; and three tests by which a
--- value is no NaN. Assumes nothing.
+-- Comparisons of two values and of 2 ^ k times each agree; of two finite values one is at most the other, or is above it, and
+-- what is above a value with the sign + is above 0; and three tests by which a value is no NaN. Assumes nothing.
 use mathlib.Core.Path.{_≡_, refl, sym, ap, _∙_}
 use mathlib.Core.Logic.{inl, inr}
 use Prim.Native.Nat.{ℕ, zero, suc, _+_, _*_, _^_, _≤_, _<_}

@@ -1,5 +1,5 @@
 -- `exp` of a value with the sign - is 1 at most, and of one of size 256 at most it is 2 ^ 400 at most. With n = |k|, |x| / ln 2 lies from n - 17 / 32 to
--- n + 1 / 2, so x differs from k ln 2 by 3 / 8 at most, the divisor 2 - c is 1 at least, and y is 2 at most, which a k below 0 halves; and where x is
+-- n + 1 / 2, so x differs from k ln 2 by 3 / 8 at most, the divisor 2 - c is 1 at least, and y is 2 at most, which a k below 0 at least halves; and where x is
 -- below 0 and k is -0, y is 1 less what is not negative. Sizes are in 64ths. Assumes nothing.
 use mathlib.Core.Path.{_≡_, refl, sym, ap, _∙_, subst}
 use mathlib.Core.Logic.{inl, inr}
@@ -25,7 +25,7 @@ use Rattle.arithmetic.specs.Laws.Compare.{finite-no-nan}
 use Rattle.arithmetic.specs.Laws.Times.{cross, has-finite, has-sign}
 use Rattle.arithmetic.specs.Laws.Sums.{add-is, difference-is}
 use Rattle.arithmetic.specs.Laws.Bounds.{le-cross}
-use Rattle.arithmetic.specs.Laws.Zeros.{zeroOf, zero-is, plus-zero}
+use Rattle.arithmetic.specs.Laws.Zeros.{zeroOf, zero-by-sign, plus-zero}
 use Rattle.arithmetic.specs.Laws.PowersOfTwo.{times-fraction}
 use Rattle.arithmetic.specs.Laws.Choices.{by-test}
 use Rattle.arithmetic.specs.Laws.PowerBounds.{zero-small, Small, small-le, size-small, small-round, small-of}
@@ -219,7 +219,7 @@ two-less : (c : Float) → Size 64 c → T (finite (two ⊖ c)) × (den (two ⊖
 two-less c h = subst (λ (z : Float). T (finite z) × (den z ≤ num z)) (sym (sub-is two c)) (two-plus (neg c) (size-neg h))
 
 -- ---- y
-abbrev c-of : Float → Float
+abbrev pub c-of : Float → Float
 c-of r = let q = r ⊗ r in r ⊖ q ⊗ (P1 ⊕ q ⊗ (P2 ⊕ q ⊗ (P3 ⊕ q ⊗ (P4 ⊕ q ⊗ P5))))
 
 c-size : (r : Float) → Size 25 r → Size 64 (c-of r)
@@ -233,7 +233,7 @@ c-size r h =
     size-widen 64 (size-sub h (size-mul 2 q t1 (lit≤ tt) (short (lit≤ tt))) (short (lit≤ tt))) (lit≤ tt)
 
 -- r c / (2 - c) is no larger than r
-abbrev fraction : Float → Float
+abbrev pub fraction : Float → Float
 fraction r = (r ⊗ c-of r) ⊘ (two ⊖ c-of r)
 
 fraction-less : (r : Float) → T (fits binary64 r) → Size 25 r → NoLarger r (fraction r)
@@ -243,7 +243,7 @@ fraction-less r F h =
     no-larger-div r (r ⊗ c-of r) (two ⊖ c-of r) F (h .is-finite) (no-larger-mul r (c-of r) F (h .is-finite) c) (t .0) (t .1)
 
 -- what is taken from 1
-abbrev subtrahend : Float → Float → Float
+abbrev pub subtrahend : Float → Float → Float
 subtrahend h l = (l ⊖ fraction (h ⊖ l)) ⊖ h
 
 subtrahend-size : (h l : Float) → Size 24 h → Size 1 l → Size 50 (subtrahend h l)
@@ -252,7 +252,7 @@ subtrahend-size h l H L =
     let f : Size 25 (fraction (h ⊖ l)) = no-larger-size r (fraction-less (h ⊖ l) (sub-fits binary64 h l) r) in
     size-sub (size-sub L f (short (lit≤ tt))) H (short (lit≤ tt))
 
-reduced-is : (x k : Float) → reduced x k ≡ one ⊖ subtrahend (x ⊖ k ⊗ ln2Hi) (k ⊗ ln2Lo)
+pub reduced-is : (x k : Float) → reduced x k ≡ one ⊖ subtrahend (x ⊖ k ⊗ ln2Hi) (k ⊗ ln2Lo)
 unfolding reduced
 reduced-is x k = refl
 
@@ -431,7 +431,7 @@ exp-minus nan F s = absurd (true≢false (sym s))
 exp-minus (inf false) F s = absurd (true≢false (sym s))
 exp-minus (inf true) F s = exp-cases (Small 0) (inf true) refl refl (zero-small 0) (λ e. absurd (true≢false e))
 exp-minus (fin false m e) F s = absurd (true≢false (sym s))
-exp-minus (fin true zero e) F s = subst (λ (z : Float). Small 0 (exp z)) (sym (zero-is (fin true zero e) F tt (zero-mul (up e)))) exp-at-minus-zero
+exp-minus (fin true zero e) F s = subst (λ (z : Float). Small 0 (exp z)) (sym (zero-by-sign (fin true zero e) F tt (zero-mul (up e)))) exp-at-minus-zero
 exp-minus (fin true (suc m) e) F s =
     exp-cases (Small 0) (fin true (suc m) e) refl refl (zero-small 0)
     (λ u. minus-small m e F
@@ -452,7 +452,7 @@ exp-at-most-one (inf false) F h = absurd h
 exp-at-most-one (inf true) F h = small-le (exp (inf true)) (exp-minus (inf true) F refl)
 exp-at-most-one (fin true m e) F h = small-le (exp (fin true m e)) (exp-minus (fin true m e) F refl)
 exp-at-most-one (fin false zero e) F h =
-    subst (λ (z : Float). T (le (exp z) one)) (sym (zero-is (fin false zero e) F tt (zero-mul (up e)))) exp-at-zero
+    subst (λ (z : Float). T (le (exp z) one)) (sym (zero-by-sign (fin false zero e) F tt (zero-mul (up e)))) exp-at-zero
 exp-at-most-one (fin false (suc m) e) F h =
     let a : suc m * up e * 1 ≤ 0 * down e = le-cross (fin false (suc m) e) plusZero tt tt refl refl h in
     let b : 0 < suc m * up e = mul-pos (zero-lt-suc m) (up-pos e) in

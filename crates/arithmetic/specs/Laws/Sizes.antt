@@ -171,7 +171,7 @@ size-neg {a} {x} h = record { is-finite = neg-finite x (h .is-finite); bound = r
 pub size-sub : {a b : ℕ} {x y : Float} → Size a x → Size b y → a + b < 2 ^ 53 → Size (a + b) (x ⊖ y)
 size-sub {a} {b} {x} {y} h g C = subst (Size (a + b)) (sym (sub-is x y)) (size-add h (size-neg g) C)
 
--- the difference of two values of one sign is no larger than the larger
+-- two values of one sign, each of a / 64 at most in size: so is their difference
 pub size-apart : {a : ℕ} {x y : Float} → Size a x → Size a y → isSignMinus y ≡ isSignMinus x → a < 2 ^ 53 → Size a (x ⊖ y)
 size-apart {a} {x} {y} h g e A =
     let s = isSignMinus x in
@@ -197,7 +197,7 @@ size-div {a} {x} y h A q g =
     go : (n d m e : ℕ) → n * 64 * e ≤ a * d * e → a * d * e ≤ a * d * m → n * e * 64 ≤ a * (m * d)
     go n d m e h g = omega arith
 
--- ---- x is no larger than v in size, v a value of the format
+-- ---- x is no larger than v in size; in the laws v is a value of the format
 pub record NoLarger (v x : Float) : Type 0 where
   pub is-finite : T (finite x)
   pub bound : num x * den v ≤ num v * den x
@@ -213,7 +213,7 @@ no-larger-size {a} {v} {x} h g = record {
   bound = through (num x) (num v) a (den x) (den v) 64 (den-pos v) (g .bound) (h .bound);
 }
 
--- a product with what is 1 at most
+-- a product with what is 1 at most in size
 pub no-larger-mul : (v c : Float) → T (fits binary64 v) → T (finite v) → Size 64 c → NoLarger v (v ⊗ c)
 no-larger-mul v c F p h =
     subst (NoLarger v) (sym (mul-is binary64 v c p (h .is-finite)))
@@ -223,7 +223,7 @@ no-larger-mul v c F p h =
     go : (n d m e : ℕ) → n * d * (m * 64) ≤ n * d * (64 * e) → n * m * d ≤ n * (d * e)
     go n d m e h = omega arith
 
--- a quotient by what is 1 at least
+-- a quotient by what is 1 at least in size
 pub no-larger-div : (v x y : Float) → T (fits binary64 v) → T (finite v) → NoLarger v x → T (finite y) → den y ≤ num y → NoLarger v (x ⊘ y)
 no-larger-div v x y F p h q g =
     let Y : 0 < num y = lt-of-lt-of-le (den-pos y) g in

@@ -4,7 +4,7 @@ use mathlib.Core.Path.{_≡_, refl, sym, ap, _∙_, subst}
 use mathlib.Core.Logic.{inl, inr}
 use Prim.Native.Nat.{ℕ, _+_, _-_, _*_, _^_, _≤_, _<_}
 use native.Mathlib.Nat.{le-trans, le-of-lt, mul-assoc, mul-pos, mul-le-mul-left, mul-le-mul-right, le-of-mul-le-mul-right}
-use native.Mathlib.Nat.{mul-one, one-mul, lt-of-mul-lt-mul-right, mul-lt-mul-of-pos-right}
+use native.Mathlib.Nat.{mul-one, one-mul, lt-of-mul-lt-mul-right}
 use native.Mathlib.Omega.{arith}
 use mathlib.Core.Bool.{true, false}
 use borrow.Author.Tests.{ltb-true, le-ltb}
@@ -55,7 +55,7 @@ fractions : (n d m e x y l : ℕ) → 0 < d → 0 < e → 0 < l → n * l ≡ x 
 fractions n d m e x y l D E L p q h f =
     let p' : n * l * e ≡ x * d * e = ap (λ (z : ℕ). z * e) p in
     let q' : m * l * d ≡ y * e * d = ap (λ (z : ℕ). z * d) q in
-    let less : x < y = lt-of-mul-lt-mul-right (d * e) (omega (arith, mul-lt-mul-of-pos-right h L)) in
+    let less : x < y = lt-of-mul-lt-mul-right (d * e) (omega (arith, mul-le-mul-right l h)) in
     let g : x * 9007199254740992 * (d * e) ≤ 9007199254740991 * y * (d * e) = mul-le-mul-right (d * e) (f less) in
     le-of-mul-le-mul-right (omega arith) L
 
@@ -117,7 +117,7 @@ one-parts : (num one ≡ 1) × (den one ≡ 1) × (isSignMinus one ≡ false) ×
 unfolding ofBits
 one-parts = (refl, refl, refl, tt)
 
--- 1 less such a value is one too: where j is 53 at most, both ends are values of the format
+-- 1 less such a value is such a value too: where j is 53 at most, both ends are values of the format
 module _ (j : ℕ) (J : j ≤ 53) (q : Float) (h : Inner j q) where
   abbrev p : ℕ
   p = 2 ^ j

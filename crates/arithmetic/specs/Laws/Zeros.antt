@@ -30,8 +30,8 @@ unfolding fits
 zero-fits s = tt
 
 -- a zero that fits is one of the two
-pub zero-is : (p : Float) → T (fits binary64 p) → T (finite p) → num p ≡ 0 → p ≡ zeroOf (isSignMinus p)
-zero-is p F h e =
+pub zero-by-sign : (p : Float) → T (fits binary64 p) → T (finite p) → num p ≡ 0 → p ≡ zeroOf (isSignMinus p)
+zero-by-sign p F h e =
     let s = isSignMinus p in
     value-unique binary64 p (zeroOf s) s 0 1 (pow-pos 0) F (zero-fits s)
     (of-cross p s 0 1 h refl (mul-one (num p) ∙ e ∙ sym (zero-mul (den p)))) (refl, refl)

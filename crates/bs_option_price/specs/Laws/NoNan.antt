@@ -50,7 +50,7 @@ cody-no-nan : (x h t : Float) → isNan (normalisedBlackWithOptimalUseOfCodysFun
 unfolding normalisedBlackWithOptimalUseOfCodysFunctions normalisedBlackWithOptimalUseOfCodysFunctionsImpl
 cody-no-nan x h t = number-or-zero _
 
--- ---- the vega is 4 at most
+-- ---- the vega is 1 at most
 -- a number with the sign +
 abbrev pub Upper : Float → Type 0
 Upper z = (T (finite z) × (isSignMinus z ≡ false)) ⊎ (z ≡ inf false)

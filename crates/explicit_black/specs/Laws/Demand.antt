@@ -25,7 +25,7 @@ use Rattle.arithmetic.specs.Laws.Extremes.{times-zero, times-refl}
 use Rattle.arithmetic.specs.Laws.ScaledRatios.{PositiveNormal, plus, num-above}
 use Rattle.arithmetic.specs.Laws.SqrtBounds.{roots-times}
 use Rattle.arithmetic.specs.Laws.Choices.{refuted}
-use Rattle.arithmetic.specs.Laws.Zeros.{zeroOf, plusZero-is, zero-is}
+use Rattle.arithmetic.specs.Laws.Zeros.{zeroOf, plusZero-is, zero-by-sign}
 use Rattle.bs_option_price.specs.BsOptionPrice.{negativeAbsLogMoneyness}
 use Rattle.bs_option_price.specs.Laws.Moneyness.{BoundedRatio, log-times, log-swap}
 use Rattle.explicit_black.specs.Counted.{Counted, atOnce}
@@ -213,7 +213,7 @@ zero-after-tests : (call : Bool) (p f k t : Float) → T (fits binary64 p) → T
     → afterTests call p f k t ≡ afterTests call (zeroOf false) f k t
 zero-after-tests call p f k t F b e =
     let s = isSignMinus p in
-    ap (λ (q : Float). afterTests call q f k t) (zero-is p F b e)
+    ap (λ (q : Float). afterTests call q f k t) (zero-by-sign p F b e)
     ∙ zero-from-price s (cond call (f ⊖ k) (k ⊖ f)) (cond call f k) (sqrt f ⊗ sqrt k) (negativeAbsLogMoneyness f k) t
 
 zero-plain : Plain (zeroOf false)

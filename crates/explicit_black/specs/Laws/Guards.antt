@@ -1,5 +1,5 @@
--- THE GUARDS AROUND PROBABILITY (REQUIREMENTS 14.2): the two branches of `from_call_price` are never taken, so each entry, at any bits, replies as it would
--- with anything in their place, and without them. A normalised price's bound is 1 at most. Assumes nothing.
+-- THE GUARDS AROUND PROBABILITY (REQUIREMENTS 14.2): no call of either entry, at any bits, takes one of the two branches of `from_call_price`. So each entry
+-- replies as it would with anything in their place, and without them. b_max is 1 at most where the log-moneyness is not NaN. Assumes nothing.
 use mathlib.Core.Path.{_≡_, refl, sym, ap, _∙_, subst}
 use mathlib.Core.Logic.{inl, inr}
 use Prim.Native.Nat.{ℕ, _*_, _^_, _≤_}
@@ -12,7 +12,7 @@ use lib.Ieee.{Float, nan, inf, fin, binary64, up, down, neg, sub, mul, div, lt, 
 use lib.Ieee.Fits.{mul-fits, div-fits}
 use lib.Ieee.Scale.{finite}
 use lib.Ieee.Positive.{num, den, positive}
-use Rattle.arithmetic.specs.Operations.{_⊖_, _⊗_, _⊘_, bits, plusZero, half, one, two, minPositive, infinity}
+use Rattle.arithmetic.specs.Operations.{_⊖_, _⊗_, _⊘_, bits, plusZero, half, one, two, minPositive}
 use Rattle.arithmetic.specs.Basic.{isSignMinus, abs, isFinite}
 use Rattle.arithmetic.specs.Sqrt.{sqrt}
 use Rattle.arithmetic.specs.Exp.{exp}
@@ -28,13 +28,13 @@ use Rattle.arithmetic.specs.Laws.UnitInterval.{zero-parts, inner-above, inner-b
 use Rattle.bs_option_price.specs.BsOptionPrice.{negativeAbsLogMoneyness}
 use Rattle.bs_option_price.specs.Laws.NoNan.{minus-half}
 use Rattle.explicit_black.specs.Counted.{Counted, atOnce, orElse}
-use Rattle.explicit_black.specs.Quote.{Outcome, total, refused, reply, fromCallPrice, fromNormalisedPrice, impliedBlackVolatilityNormalised}
+use Rattle.explicit_black.specs.Quote.{Outcome, refused, reply, fromCallPrice, fromNormalisedPrice, impliedBlackVolatilityNormalised}
 use Rattle.explicit_black.specs.Quote.{firstRefusal, intrinsicValue, priceBound, boundTests, normalisedTimeValue}
 use Rattle.explicit_black.specs.Quote.{fromTimeValue, fromPrice, fromQuote, impliedBlackVolatilityInput}
-use Rattle.explicit_black.specs.Guards.{guardedBy, guarded, unguarded, survivalThreshold, bMaxOf, fromCallPriceBy, fromNormalisedPriceBy}
+use Rattle.explicit_black.specs.Guards.{guardedWith, guarded, unguarded, survivalThreshold, bMaxOf, fromCallPriceBy, fromNormalisedPriceBy}
 use Rattle.explicit_black.specs.Guards.{impliedBlackVolatilityNormalisedBy, fromTimeValueBy, impliedBlackVolatilityInputBy}
 
--- ---- neither branch is taken at the price q, as a fraction of its bound
+-- ---- q is a price divided by its b_max: where the two tests are reached, neither holds
 abbrev pub NotTaken : Float → Type 0
 NotTaken q = lt q survivalThreshold ≡ false → (le (one ⊖ q) plusZero ≡ false) × (le one (one ⊖ q) ≡ false)
 
@@ -58,7 +58,7 @@ nan-not-taken : NotTaken nan
 unfolding sub le ofBits
 nan-not-taken e = (refl, refl)
 
--- ---- the bound of a normalised price is 1 at most
+-- ---- b_max is 1 at most
 minus-half-abs : (x : Float) → isNan x ≡ false → isSignMinus (neg half ⊗ abs x) ≡ true
 unfolding isNan abs
 minus-half-abs nan n = absurd (true≢false n)
@@ -75,7 +75,7 @@ b-max-nan : bMaxOf nan ≡ nan
 unfolding abs mul exp neg ofBits
 b-max-nan = refl
 
--- ---- a price that passes the tests before, over its bound
+-- ---- a price that passes tests 7 and 8, divided by b_max
 nan-over : (b : Float) → nan ⊘ b ≡ nan
 unfolding div
 nan-over b = refl
@@ -86,9 +86,9 @@ over-nan nan = refl
 over-nan (inf s) = refl
 over-nan (fin s m e) = refl
 
-share-at-most : (p b : Float) → T (fits binary64 p) → T (fits binary64 b) → T (finite p) → T (finite b) → le p plusZero ≡ false → le b p ≡ false
+quotient-at-most : (p b : Float) → T (fits binary64 p) → T (fits binary64 b) → T (finite p) → T (finite b) → le p plusZero ≡ false → le b p ≡ false
     → AtMost false nextDownOne (p ⊘ b)
-share-at-most p b F G s t h g =
+quotient-at-most p b F G s t h g =
     let P : T (positive p) = lt-positive plusZero p (zero-parts .3) (zero-parts .2) s (not-le p plusZero s (zero-parts .3) h) in
     let less : lt p b ≡ true = not-le b p t s g in
     quotient-below-one p b F G P (lt-positive p b s (positive-sign p P) t less) less
@@ -103,16 +103,17 @@ over-finite (inf false) b F G t h g = absurd (go b t g)
     go nan t g = t
     go (inf s) t g = t
     go (fin s m e) t g = true≢false g
-over-finite (fin s m e) b F G t h g = at-most-not-taken (fin s m e ⊘ b) (share-at-most (fin s m e) b F G tt t h g)
+over-finite (fin s m e) b F G t h g = at-most-not-taken (fin s m e ⊘ b) (quotient-at-most (fin s m e) b F G tt t h g)
 
 number-not-taken : (x p : Float) → isNan x ≡ false → T (fits binary64 p) → le p plusZero ≡ false → le (bMaxOf x) p ≡ false → NotTaken (p ⊘ bMaxOf x)
 number-not-taken x p n F h g = over-finite p (bMaxOf x) F (exp-fits (neg half ⊗ abs x)) (b-max-small x n .is-finite) h g
 
-share-not-taken : (x p : Float) → T (fits binary64 p) → le p plusZero ≡ false → le (bMaxOf x) p ≡ false → NotTaken (p ⊘ bMaxOf x)
+-- ---- NEITHER BRANCH IS TAKEN, whatever x is
+pub quotient-not-taken : (x p : Float) → T (fits binary64 p) → le p plusZero ≡ false → le (bMaxOf x) p ≡ false → NotTaken (p ⊘ bMaxOf x)
 unfolding isNan
-share-not-taken nan p F h g = subst NotTaken (sym (ap (λ (b : Float). p ⊘ b) b-max-nan ∙ over-nan p)) nan-not-taken
-share-not-taken (inf s) p F h g = number-not-taken (inf s) p refl F h g
-share-not-taken (fin s m e) p F h g = number-not-taken (fin s m e) p refl F h g
+quotient-not-taken nan p F h g = subst NotTaken (sym (ap (λ (b : Float). p ⊘ b) b-max-nan ∙ over-nan p)) nan-not-taken
+quotient-not-taken (inf s) p F h g = number-not-taken (inf s) p refl F h g
+quotient-not-taken (fin s m e) p F h g = number-not-taken (fin s m e) p refl F h g
 
 -- ---- ANYTHING IN PLACE OF THE BRANCHES
 -- `by` does as the two branches and the search do, at a probability that is neither at most 0 nor at least 1
@@ -130,7 +131,7 @@ module _ (by : Float → Float → Counted Outcome) (A : Agrees by) where
       on-false (le p plusZero) _ (λ h.
       on-false (le (bMaxOf x) p) _ (λ g.
       on-false (eq (abs x) plusZero) _ (λ e.
-      call-price-by (p ⊘ bMaxOf x) (two ⊘ abs x) (share-not-taken x p F h g))))
+      call-price-by (p ⊘ bMaxOf x) (two ⊘ abs x) (quotient-not-taken x p F h g))))
 
   -- of the normalised entry, at any bits
   pub normalised-by : (x p : Float) → T (fits binary64 p) → impliedBlackVolatilityNormalisedBy by x p ≡ impliedBlackVolatilityNormalised x p
@@ -160,16 +161,33 @@ normalised-unguarded = normalised-by unguarded unguarded-agrees
 pub input-unguarded : (side : ℕ) (p f k t : Float) → impliedBlackVolatilityInputBy unguarded side p f k t ≡ impliedBlackVolatilityInput side p f k t
 input-unguarded = input-by unguarded unguarded-agrees
 
-replaced-agrees : (low high : Counted Outcome) → Agrees (guardedBy low high)
+replaced-agrees : (low high : Counted Outcome) → Agrees (guardedWith low high)
 replaced-agrees low high probability mu h g = rw (h, g) refl
 
-pub input-replaced : (low high : Counted Outcome) (side : ℕ) (p f k t : Float)
-    → impliedBlackVolatilityInputBy (guardedBy low high) side p f k t ≡ impliedBlackVolatilityInput side p f k t
-input-replaced low high = input-by (guardedBy low high) (replaced-agrees low high)
+pub normalised-replaced : (low high : Counted Outcome) (x p : Float) → T (fits binary64 p)
+    → impliedBlackVolatilityNormalisedBy (guardedWith low high) x p ≡ impliedBlackVolatilityNormalised x p
+normalised-replaced low high = normalised-by (guardedWith low high) (replaced-agrees low high)
 
--- ---- A PRICE BETWEEN 0 AND ITS BOUND, at a finite log-moneyness other than 0. `b-max-at-most-one` says that the bound is 1 at most
+pub input-replaced : (low high : Counted Outcome) (side : ℕ) (p f k t : Float)
+    → impliedBlackVolatilityInputBy (guardedWith low high) side p f k t ≡ impliedBlackVolatilityInput side p f k t
+input-replaced low high = input-by (guardedWith low high) (replaced-agrees low high)
+
+-- ---- WHERE `by` STANDS: a price that passes all tests gets what `by` gives
+module _ (by : Float → Float → Counted Outcome) where
+  pub normalised-reached : (x p : Float) → le p plusZero ≡ false → le (bMaxOf x) p ≡ false → eq (abs x) plusZero ≡ false
+      → lt (p ⊘ bMaxOf x) survivalThreshold ≡ false → fromNormalisedPriceBy by x p ≡ by (one ⊖ p ⊘ bMaxOf x) (two ⊘ abs x)
+  unfolding fromNormalisedPriceBy fromCallPriceBy
+  normalised-reached x p h g e l = rw (h, g, e, l) refl
+
+  pub input-reached : (side : ℕ) (p f k t : Float) → firstRefusal side p f k t ≡ 0 → eq t plusZero ≡ false → le (priceBound side f k) p ≡ false →
+      let v = normalisedTimeValue p (intrinsicValue side f k) (sqrt f ⊗ sqrt k) in
+      le v minPositive ≡ false → impliedBlackVolatilityInputBy by side p f k t ≡ reply t (fromNormalisedPriceBy by (negativeAbsLogMoneyness f k) v)
+  unfolding impliedBlackVolatilityInputBy fromTimeValueBy boundTests orElse
+  input-reached side p f k t n z g m = rw (n, z, g, m) refl
+
+-- ---- A PRICE BETWEEN 0 AND B_MAX, at a finite log-moneyness other than 0
 pub record WithinBound (x p : Float) : Type 0 where
-  pub share : T (le (p ⊘ bMaxOf x) nextDownOne)
+  pub quotient : T (le (p ⊘ bMaxOf x) nextDownOne)
   pub not-taken : NotTaken (p ⊘ bMaxOf x)
   pub same : fromNormalisedPrice x p ≡ fromCallPriceBy unguarded (p ⊘ bMaxOf x) (two ⊘ abs x)
 
@@ -205,7 +223,7 @@ within-bound x p F n z a u =
     let B : T (positive b) = lt-positive p b s (positive-sign p P) t u in
     let most : AtMost false nextDownOne q = quotient-below-one p b F (exp-fits (neg half ⊗ abs x)) P B u in
     record {
-      share = below-one-le q most;
+      quotient = below-one-le q most;
       not-taken = at-most-not-taken q most;
       same =
           rw (
@@ -216,11 +234,11 @@ within-bound x p F n z a u =
           ) (sym (call-price-by unguarded unguarded-agrees q (two ⊘ abs x) (at-most-not-taken q most)));
     }
 
--- 1 - 2 ^ -53 is reached, at a log-moneyness of 2 ^ -60; and a price that is its bound would take the first branch
-pub share-reached : nextDownOne ⊘ bMaxOf (bits 0x3C30_0000_0000_0000) ≡ nextDownOne
-unfolding abs neg mul exp div ofBits
-share-reached = refl
+-- 1 - 2 ^ -53 is reached, at a log-moneyness of 2 ^ -60; and a price that is b_max would take the first branch
+pub quotient-reached : let b = bMaxOf (bits 0x3C30_0000_0000_0000) in (lt nextDownOne b ≡ true) × (nextDownOne ⊘ b ≡ nextDownOne)
+unfolding abs neg mul exp div lt ofBits
+quotient-reached = (refl, refl)
 
-pub bound-taken : (mu : Float) → fromCallPrice one mu ≡ atOnce (total infinity)
-unfolding fromCallPrice lt le sub ofBits
-bound-taken mu = refl
+pub bound-taken : (low high : Counted Outcome) (mu : Float) → fromCallPriceBy (guardedWith low high) one mu ≡ low
+unfolding fromCallPriceBy lt le sub ofBits
+bound-taken low high mu = refl

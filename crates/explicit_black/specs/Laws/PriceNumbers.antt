@@ -23,7 +23,7 @@ use Rattle.arithmetic.specs.Laws.Sizes.{apart-by, sum-size}
 use Rattle.arithmetic.specs.Laws.Quotients.{round-no-nan}
 use Rattle.arithmetic.specs.Laws.ScaledProducts.{zero-num}
 use Rattle.arithmetic.specs.Laws.SqrtBounds.{roots-positive}
-use Rattle.arithmetic.specs.Laws.Zeros.{zeroOf, plusZero-is, zero-is, zero-plus}
+use Rattle.arithmetic.specs.Laws.Zeros.{zeroOf, plusZero-is, zero-by-sign, zero-plus}
 use Rattle.bs_option_price.specs.BsOptionPrice.{normalisedBlack}
 use Rattle.bs_option_price.specs.Laws.MoneynessBounds.{PositiveValue}
 use Rattle.bs_option_price.specs.Laws.NoNan.{time-value-no-nan}
@@ -72,7 +72,7 @@ root-of-zero s = refl
 zero-time : (v t : Float) → T (finite v) → T (finite t) → T (fits binary64 t) → eq t plusZero ≡ true → eq (v ⊗ sqrt t) plusZero ≡ true
 zero-time v t p q F e =
     let s = isSignMinus t in
-    let i : t ≡ zeroOf s = zero-is t F q (zero-num t q (subst T (sym e) tt)) in
+    let i : t ≡ zeroOf s = zero-by-sign t F q (zero-num t q (subst T (sym e) tt)) in
     ap (λ (z : Float). eq (v ⊗ z) plusZero) (ap sqrt i ∙ root-of-zero s)
     ∙ ap (λ (z : Float). eq z plusZero) (zero-product v s p)
     ∙ zero-equal (unlike (isSignMinus v) s)
@@ -154,7 +154,7 @@ value-at-zero : (f k s : Float) → PositiveValue f → PositiveValue k → T (f
 unfolding timeValue normalisedBlack
 value-at-zero f k s o q F p e =
     let b = isSignMinus s in
-    let i : s ≡ zeroOf b = zero-is s F p (zero-num s p e) in
+    let i : s ≡ zeroOf b = zero-by-sign s F p (zero-num s p e) in
     let r = sqrt f ⊗ sqrt k in
     let above = roots-positive f k (o .above) (o .held) (q .above) (q .held) in
     rw (i, half-of-zero b, plusZero-is) (zero-product r false (positive-finite r above) ∙ ap (λ (u : Bool). zeroOf (unlike u false)) (positive-sign r above))

@@ -440,7 +440,7 @@ exp-minus (fin true (suc m) e) F s =
     go : (n d : ℕ) → n * den uThreshold ≤ num uThreshold * d → n * 64 ≤ 65536 * d
     go n d h = omega arith
 
--- of a value that is not above 0
+-- of a value that is 0 or below
 exp-at-zero : T (le (exp (zeroOf false)) one)
 unfolding exp lt le
 exp-at-zero = tt

@@ -1,5 +1,6 @@
--- THE GUARDS AROUND PROBABILITY (REQUIREMENTS 14.2): no call of either entry, at any bits, takes one of the two branches of `from_call_price`. So each entry
--- replies as it would with anything in their place, and without them. b_max is 1 at most where the log-moneyness is not NaN. Assumes nothing.
+-- THE GUARDS AROUND PROBABILITY (REQUIREMENTS 14.2): no call of the quote entry or of the normalised entry, at any bits, takes one of the two branches of
+-- `from_call_price`. So each replies as it would with anything in their place, and without them. b_max is 1 at most where the log-moneyness is not NaN.
+-- Assumes nothing.
 use mathlib.Core.Path.{_≡_, refl, sym, ap, _∙_, subst}
 use mathlib.Core.Logic.{inl, inr}
 use Prim.Native.Nat.{ℕ, _*_, _^_, _≤_}
@@ -172,12 +173,17 @@ pub input-replaced : (low high : Counted Outcome) (side : ℕ) (p f k t : Float)
     → impliedBlackVolatilityInputBy (guardedWith low high) side p f k t ≡ impliedBlackVolatilityInput side p f k t
 input-replaced low high = input-by (guardedWith low high) (replaced-agrees low high)
 
--- ---- WHERE `by` STANDS: a price that passes all tests gets what `by` gives
+-- ---- WHERE `by` STANDS: a call that gets as far as the branches is answered by `by`
 module _ (by : Float → Float → Counted Outcome) where
-  pub normalised-reached : (x p : Float) → le p plusZero ≡ false → le (bMaxOf x) p ≡ false → eq (abs x) plusZero ≡ false
+  pub price-reached : (x p : Float) → le p plusZero ≡ false → le (bMaxOf x) p ≡ false → eq (abs x) plusZero ≡ false
       → lt (p ⊘ bMaxOf x) survivalThreshold ≡ false → fromNormalisedPriceBy by x p ≡ by (one ⊖ p ⊘ bMaxOf x) (two ⊘ abs x)
   unfolding fromNormalisedPriceBy fromCallPriceBy
-  normalised-reached x p h g e l = rw (h, g, e, l) refl
+  price-reached x p h g e l = rw (h, g, e, l) refl
+
+  pub normalised-reached : (x p : Float) → (isFinite x && isFinite p) ≡ true
+      → impliedBlackVolatilityNormalisedBy by x p ≡ reply one (fromNormalisedPriceBy by x p)
+  unfolding impliedBlackVolatilityNormalisedBy
+  normalised-reached x p f = rw f refl
 
   pub input-reached : (side : ℕ) (p f k t : Float) → firstRefusal side p f k t ≡ 0 → eq t plusZero ≡ false → le (priceBound side f k) p ≡ false →
       let v = normalisedTimeValue p (intrinsicValue side f k) (sqrt f ⊗ sqrt k) in
@@ -234,11 +240,11 @@ within-bound x p F n z a u =
           ) (sym (call-price-by unguarded unguarded-agrees q (two ⊘ abs x) (at-most-not-taken q most)));
     }
 
--- 1 - 2 ^ -53 is reached, at a log-moneyness of 2 ^ -60; and a price that is b_max would take the first branch
-pub quotient-reached : let b = bMaxOf (bits 0x3C30_0000_0000_0000) in (lt nextDownOne b ≡ true) × (nextDownOne ⊘ b ≡ nextDownOne)
+-- 1 - 2 ^ -53 is attained, at a log-moneyness of 2 ^ -60; and a quotient of 1 would take the first branch
+pub quotient-attained : let b = bMaxOf (bits 0x3C30_0000_0000_0000) in (lt nextDownOne b ≡ true) × (nextDownOne ⊘ b ≡ nextDownOne)
 unfolding abs neg mul exp div lt ofBits
-quotient-reached = (refl, refl)
+quotient-attained = (refl, refl)
 
-pub bound-taken : (low high : Counted Outcome) (mu : Float) → fromCallPriceBy (guardedWith low high) one mu ≡ low
+pub one-taken : (low high : Counted Outcome) (mu : Float) → fromCallPriceBy (guardedWith low high) one mu ≡ low
 unfolding fromCallPriceBy lt le sub ofBits
-bound-taken low high mu = refl
+one-taken low high mu = refl

@@ -1,13 +1,13 @@
 -- What `decompose_bits`, `ln` and `ln_1p` give: a difference of whole numbers, and the logarithm on each path of the code. Assumes nothing.
 use mathlib.Core.Path.{_≡_, refl, sym, ap, _∙_, subst}
 use mathlib.Core.Logic.{_⊎_, inl, inr}
-use mathlib.Core.Bool.{true, false, _&&_, _||_, true≢false, false≢true, or-true}
-use Prim.Native.Nat.{ℕ, zero, suc, _+_, _-_, _*_, _^_, _≤_, _<_}
-use native.Mathlib.Nat.{zero-mul, mul-one, one-mul, mul-comm, mul-assoc, mul-pos, zero-lt-suc}
+use mathlib.Core.Bool.{true, false, true≢false, false≢true, or-true}
+use Prim.Native.Nat.{ℕ, suc, _+_, _-_, _*_, _^_, _≤_, _<_}
+use native.Mathlib.Nat.{mul-one, one-mul, mul-comm, mul-assoc, mul-pos, zero-lt-suc}
 use native.Mathlib.Omega.{arith}
 use borrow.Author.Tests.{lt-ltb, le-ltb, le-leb, lt-leb, ltb-false}
 use lib.IntN.{pos}
-use lib.Dec.{T, eqb, lt→ltb}
+use lib.Dec.{T, lt→ltb}
 use denote.Floats.{passes}
 use lib.Ieee.{Float, nan, inf, fin, binary64, up, down, minus, round, sum, add, sub, mul, ofInt, isNan, lt, eq, le, ofBits}
 use lib.Ieee.Fits.{down-pos}
@@ -20,7 +20,7 @@ use Rattle.arithmetic.specs.Exp.{ln2Lo as L}
 use Rattle.arithmetic.specs.Ln.{significand, exponent, series, ln, fromLeast, toMost, ln1p}
 use Rattle.arithmetic.specs.Laws.Numbers.{lt-or-le}
 use Rattle.arithmetic.specs.Laws.Times.{cross, has-sign, has-finite}
-use Rattle.arithmetic.specs.Laws.Compare.{finite-no-nan}
+use Rattle.arithmetic.specs.Laws.Compare.{neither-zero, finite-no-nan}
 use Rattle.arithmetic.specs.Laws.Sums.{sum-same, difference-is}
 use Rattle.arithmetic.proofs.Integers.{integer-value}
 use Rattle.arithmetic.proofs.SqrtPaths.{zero-by-zero}
@@ -63,19 +63,14 @@ ln-below x e l = zero-by-zero ∙ rw (e, l, or-true (isNan x))
 
 -- not zero, not below it, and below the infinity
 pub is-positive : (x : Float) → eq x plusZero ≡ false → lt x plusZero ≡ false → lt x (bits 0x7ff0000000000000) ≡ true → T (positive x)
-unfolding ofBits eq lt
-is-positive nan e l h = absurd (false≢true h)
-is-positive (inf true) e l h = absurd (true≢false l)
-is-positive (inf false) e l h = absurd (false≢true h)
-is-positive (fin true m e) z l h = absurd (true≢false (sym (equal (m * up e * 1) (0 * down e) (ltb-false 0 (m * up e * 1 + 0 * down e) l)) ∙ z))
+unfolding ofBits lt
+is-positive x e l h = neither-zero x (below-infinity x l h) l e
   where
-    equal : (a b : ℕ) → a + b ≤ 0 → (eqb a b && (false || eqb a 0)) ≡ true
-    equal a b h =
-        let A : a ≡ 0 = omega arith in
-        let B : b ≡ 0 = omega arith in
-        rw (A, B)
-is-positive (fin false zero e) z l h = absurd (true≢false (sym (rw (zero-mul (up e), zero-mul (down e))) ∙ z))
-is-positive (fin false (suc m) e) z l h = lt→ltb 0 (suc m) (zero-lt-suc m)
+    below-infinity : (x : Float) → lt x plusZero ≡ false → lt x (bits 0x7ff0000000000000) ≡ true → T (finite x)
+    below-infinity nan l h = absurd (false≢true h)
+    below-infinity (inf true) l h = absurd (true≢false l)
+    below-infinity (inf false) l h = absurd (false≢true h)
+    below-infinity (fin s m e) l h = tt
 
 pub ln-parts : (x m k r : Float) → eq x plusZero ≡ false → lt x plusZero ≡ false → T (positive x) → (m ≡ significand x) × (k ≡ exponent x)
     → r ≡ series (m ⊖ one) k (k ⊗ L) → r ≡ ln x

@@ -58,7 +58,7 @@ abbrev pub searched : Counted (Option Float) → Counted Outcome
 searched c = record { result = totalAt (c .result); count = c .count }
 
 -- away from the money: the price divided by b_max is the probability of the upper tail; where it is small the quantile is searched for by that. No call
--- takes the two branches on the probability (Laws/Guards.antt)
+-- of an entry takes the two branches on the probability (Laws/Guards.antt)
 unfoldable pub fromCallPrice : Float → Float → Counted Outcome
 fromCallPrice otmCallPrice mu =
     let probability = one ⊖ otmCallPrice in

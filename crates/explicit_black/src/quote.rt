@@ -135,7 +135,7 @@ fn from_call_price(otm_call_price: f64, mu: f64, allowed: Allowance) -> Solved
         return total_at(inverse_gaussian_quantile_from_survival(otm_call_price, mu, allowed));
     }
     let probability = 1.0 - otm_call_price;
-    // Neither this branch nor the next is taken, at any bits: specs/Laws/Guards.antt.
+    // No call of an entry, whatever its bits, takes this branch or the next: specs/Laws/Guards.antt.
     if probability <= 0.0 {
         return Solved::Total(f64::from_bits(INFINITY), allowed);
     }

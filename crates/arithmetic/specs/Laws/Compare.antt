@@ -9,12 +9,13 @@ use borrow.Author.Tests.{lt-ltb, ltb-true}
 use mathlib.Core.Bool.{Bool, true, false, _&&_, _||_, or-true, true≢false, false≢true}
 use lib.Dec.{T, ltb, eqb, eqb-refl, lt→ltb}
 use lib.Pow.{pow-pos}
-use lib.Ieee.{Float, nan, inf, fin, up, down, below, level, lt, eq, le, ne, isNan}
+use lib.Ieee.{Float, nan, inf, fin, up, down, below, level, lt, eq, le, ne, isNan, ofBits}
 use lib.Ieee.Bits.{is-true}
 use lib.Ieee.Compare.{nan-differs}
 use lib.Ieee.Scale.{finite}
 use lib.Ieee.Positive.{num, den, den-pos, positive, first-pos}
 use Rattle.arithmetic.specs.Laws.Numbers.{lt-or-le}
+use Rattle.arithmetic.specs.Operations.{plusZero}
 use Rattle.arithmetic.specs.Laws.Ratio.{ltb-ratio, eqb-ratio, zero-ratio, add-ratio}
 use Rattle.arithmetic.specs.Basic.{isSignMinus}
 use Rattle.arithmetic.specs.Laws.Times.{Times, both-finite}
@@ -110,6 +111,19 @@ lt-positive x (fin true m e) p s q h = absurd (false≢true (sym (lt-is x (fin t
 lt-positive x (fin false m e) p s q h =
     let l : num x * down e < m * up e * den x = ltb-true (num x * down e) (m * up e * den x) (sym (lt-is x (fin false m e) p q ∙ rw s refl) ∙ h) in
     lt→ltb 0 m (first-pos m (up e) (first-pos (m * up e) (den x) (omega arith)))
+
+-- a finite value that is above 0, or not at most 0, or neither below nor equal to it
+pub above-zero : (x : Float) → T (finite x) → lt plusZero x ≡ true → T (positive x)
+unfolding ofBits
+above-zero x p h = lt-positive plusZero x tt refl p h
+
+pub not-le-zero : (x : Float) → T (finite x) → le x plusZero ≡ false → T (positive x)
+unfolding ofBits
+not-le-zero x p h = above-zero x p (not-le x plusZero p tt h)
+
+pub neither-zero : (x : Float) → T (finite x) → lt x plusZero ≡ false → eq x plusZero ≡ false → T (positive x)
+unfolding le
+neither-zero x p l e = not-le-zero x p (rw (l, e) refl)
 
 -- ---- tests by which x is no NaN
 pub finite-no-nan : (x : Float) → T (finite x) → isNan x ≡ false

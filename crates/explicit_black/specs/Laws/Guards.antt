@@ -18,7 +18,7 @@ use Rattle.arithmetic.specs.Basic.{isSignMinus, abs, isFinite}
 use Rattle.arithmetic.specs.Sqrt.{sqrt}
 use Rattle.arithmetic.specs.Exp.{exp}
 use Rattle.arithmetic.specs.Laws.Choices.{on-false}
-use Rattle.arithmetic.specs.Laws.Compare.{lt-is, not-le, lt-positive, finite-no-nan}
+use Rattle.arithmetic.specs.Laws.Compare.{lt-is, not-le, lt-positive, above-zero, not-le-zero, finite-no-nan}
 use Rattle.arithmetic.specs.Laws.Times.{positive-sign}
 use Rattle.arithmetic.specs.Laws.Bounds.{AtMost, lt-not-le}
 use Rattle.arithmetic.specs.Laws.PowerBounds.{Small, small-le}
@@ -90,7 +90,7 @@ over-nan (fin s m e) = refl
 quotient-at-most : (p b : Float) → T (fits binary64 p) → T (fits binary64 b) → T (finite p) → T (finite b) → le p plusZero ≡ false → le b p ≡ false
     → AtMost false nextDownOne (p ⊘ b)
 quotient-at-most p b F G s t h g =
-    let P : T (positive p) = lt-positive plusZero p (zero-parts .3) (zero-parts .2) s (not-le p plusZero s (zero-parts .3) h) in
+    let P : T (positive p) = not-le-zero p s h in
     let less : lt p b ≡ true = not-le b p t s g in
     quotient-below-one p b F G P (lt-positive p b s (positive-sign p P) t less) less
 
@@ -225,7 +225,7 @@ within-bound x p F n z a u =
     let q = p ⊘ b in
     let s : T (finite p) = under-finite p b a u in
     let t : T (finite b) = b-max-small x (finite-no-nan x n) .is-finite in
-    let P : T (positive p) = lt-positive plusZero p (zero-parts .3) (zero-parts .2) s a in
+    let P : T (positive p) = above-zero p s a in
     let B : T (positive b) = lt-positive p b s (positive-sign p P) t u in
     let most : AtMost false nextDownOne q = quotient-below-one p b F (exp-fits (neg half ⊗ abs x)) P B u in
     record {

@@ -15,7 +15,7 @@ use Rattle.arithmetic.specs.Basic.{isSignMinus, isFinite}
 use Rattle.arithmetic.specs.Sqrt.{sqrt}
 use Rattle.arithmetic.specs.Laws.Choices.{in-both, by-test, refuted}
 use Rattle.arithmetic.specs.Laws.Times.{positive-sign}
-use Rattle.arithmetic.specs.Laws.Compare.{lt-positive, finite-no-nan}
+use Rattle.arithmetic.specs.Laws.Compare.{above-zero, finite-no-nan}
 use Rattle.arithmetic.specs.Laws.Sums.{sub-finite}
 use Rattle.arithmetic.specs.Laws.Products.{mul-is}
 use Rattle.arithmetic.specs.Laws.Bounds.{round-to-zero}
@@ -61,8 +61,7 @@ zero-equal true = refl
 zero-equal false = refl
 
 above-positive : (x : Float) → isFinite x ≡ true → lt plusZero x ≡ true → T (positive x)
-unfolding ofBits
-above-positive x p l = lt-positive plusZero x tt refl (subst T (sym p) tt) l
+above-positive x p l = above-zero x (subst T (sym p) tt) l
 
 -- ---- at time zero s is 0
 root-of-zero : (s : Bool) → sqrt (zeroOf s) ≡ zeroOf s

@@ -1,14 +1,13 @@
 -- What holds of every reply: how many evaluations it counts, which refusals it has, and that its figures are numbers. Assumes nothing.
 use mathlib.Core.Path.{_≡_, refl, sym, ap, _∙_, subst}
 use mathlib.Core.Logic.{_⊎_, inl, inr}
-use Prim.Native.Nat.{ℕ, zero, suc, _+_, _*_, _≤_, _<_}
-use native.Mathlib.Nat.{zero-mul, mul-pos, zero-lt-suc}
+use Prim.Native.Nat.{ℕ, zero, suc, _≤_, _<_}
 use native.Mathlib.Omega.{arith}
 use borrow.Author.Tests.{ne-eqb}
 use mathlib.Core.Bool.{Bool, true, false, not, cond, _&&_, _||_, true≢false, false≢true}
-use lib.Dec.{T, eqb, eqb·suc-zero, ltb, lt→ltb, lit≤}
-use lib.Ieee.{Float, nan, inf, fin, binary64, up, down, neg, lt, le, eq, isNan, fits, ofBits}
-use lib.Ieee.Fits.{up-pos, div-fits}
+use lib.Dec.{T, eqb, eqb·suc-zero, lit≤}
+use lib.Ieee.{Float, binary64, neg, lt, le, eq, isNan, fits, ofBits}
+use lib.Ieee.Fits.{div-fits}
 use lib.Ieee.Bits.{is-true}
 use lib.Ieee.Positive.{positive}
 use Rattle.arithmetic.specs.Operations.{_⊗_, _⊘_, plusZero, half, one, two, minPositive}
@@ -16,7 +15,7 @@ use Rattle.arithmetic.specs.Basic.{abs, isFinite}
 use Rattle.arithmetic.specs.Sqrt.{sqrt}
 use Rattle.arithmetic.specs.Exp.{exp}
 use Rattle.arithmetic.specs.Laws.Choices.{in-both, by-test, never}
-use Rattle.arithmetic.specs.Laws.Compare.{finite-no-nan}
+use Rattle.arithmetic.specs.Laws.Compare.{neither-zero, finite-no-nan}
 use Rattle.arithmetic.specs.Laws.ScaledRatios.{PositiveNormal}
 use Rattle.arithmetic.specs.Laws.SqrtBounds.{sqrt-positive}
 use Rattle.arithmetic.specs.Laws.Quotients.{div-no-nan, two-over-root}
@@ -68,16 +67,7 @@ FiguresAreNumbers (answer v w count) = (isNan v ≡ false) × T (fits binary64 v
 FiguresAreNumbers (refusal m count) = Unit
 
 pub time-positive : (t : Float) → isFinite t ≡ true → lt t plusZero ≡ false → eq t plusZero ≡ false → T (positive t)
-unfolding lt eq ofBits
-time-positive nan p l n = absurd (false≢true p)
-time-positive (inf s) p l n = absurd (false≢true p)
-time-positive (fin true zero e) p l n = absurd (true≢false (sym (rw (zero-mul (up e), zero-mul (down e))) ∙ n))
-time-positive (fin false zero e) p l n = absurd (true≢false (sym (rw (zero-mul (up e), zero-mul (down e))) ∙ n))
-time-positive (fin false (suc m) e) p l n = lt→ltb 0 (suc m) (zero-lt-suc m)
-time-positive (fin true (suc m) e) p l n =
-    let a = suc m * up e * 1 + 0 * down e in
-    let above : 0 < a = let q : 0 < suc m * up e = mul-pos (zero-lt-suc m) (up-pos e) in omega arith in
-    absurd (true≢false (sym (is-true (ltb 0 a) (lt→ltb 0 a above)) ∙ l))
+time-positive t p l n = neither-zero t (subst T (sym p) tt) l n
 
 abbrev IsNumber : Float → Type 0
 IsNumber w = (isNan w ≡ false) × T (fits binary64 w)

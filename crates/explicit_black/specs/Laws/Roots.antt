@@ -1,17 +1,17 @@
 -- The root that a search finds is a value of binary64, if mu is. Assumes nothing.
 use mathlib.Core.Path.{_≡_, sym, subst}
-use Prim.Native.Nat.{ℕ, zero, suc, _*_}
-use native.Mathlib.Nat.{zero-mul, mul-one}
-use mathlib.Core.Bool.{true, false, _||_, false≢true}
-use lib.Dec.{T, ltb→lt, lt→ltb}
-use lib.Ieee.{Float, nan, inf, fin, binary64, up, down, neg, lt, le, eq, fits, ofBits}
-use lib.Ieee.Positive.{positive, first-pos}
-use lib.Ieee.Fits.{cond-fits, add-fits, sub-fits, mul-fits}
-use lib.Ieee.Bits.{ofBits-fits}
+use Prim.Native.Nat.{ℕ, zero, suc}
+use mathlib.Core.Bool.{true, _||_}
+use lib.Dec.{T}
+use lib.Ieee.{Float, binary64, neg, lt, le, eq, fits}
+use lib.Ieee.Positive.{positive}
+use lib.Ieee.Fits.{and-l, and-r, cond-fits, add-fits, sub-fits, mul-fits}
+use lib.Ieee.Bits.{is-true, ofBits-fits}
 use Rattle.arithmetic.specs.Operations.{_⊕_, _⊖_, _⊗_, plusZero, half, one, two, minPositive, maxFinite}
 use Rattle.arithmetic.specs.Basic.{abs, signum, max, isFinite}
 use Rattle.arithmetic.specs.Ln.{ln}
 use Rattle.arithmetic.specs.Laws.Choices.{in-both}
+use Rattle.arithmetic.specs.Laws.Compare.{above-zero}
 use Rattle.arithmetic.specs.Laws.ExpFits.{exp-fits}
 use Rattle.special_function.specs.NormalDistribution.{inverseNormCdf}
 use Rattle.explicit_black.specs.declared.bracket.Bracket.{Bracket}
@@ -30,13 +30,9 @@ use Rattle.explicit_black.specs.Survival.{survivalIterations, survivalIt
 
 -- ---- what is finite and above 0 is `positive` of lib.Ieee
 pub finitePositive-positive : (x : Float) → finitePositive x ≡ true → T (positive x)
-unfolding lt ofBits
-finitePositive-positive nan h = absurd (false≢true h)
-finitePositive-positive (inf s) h = absurd (false≢true h)
-finitePositive-positive (fin true m e) h = absurd (false≢true h)
-finitePositive-positive (fin false m e) h =
-    let q = rw (zero-mul, mul-one) at (ltb→lt (0 * down e) (m * up e * 1) (subst T (sym h) tt)) in
-    lt→ltb 0 m (first-pos m (up e) q)
+finitePositive-positive x h =
+    let t : T (finitePositive x) = subst T (sym h) tt in
+    above-zero x (and-l (isFinite x) _ t) (is-true (lt plusZero x) (and-r (isFinite x) _ t))
 
 -- ---- an invariant I of a loop's states, with J of its results
 module _ {S R : Type 0} (I : S → Type 0) (J : R → Type 0) where

@@ -240,10 +240,13 @@ within-bound x p F n z a u =
           ) (sym (call-price-by unguarded unguarded-agrees q (two ⊘ abs x) (at-most-not-taken q most)));
     }
 
--- 1 - 2 ^ -53 is attained, at a log-moneyness of 2 ^ -60; and a quotient of 1 would take the first branch
-pub quotient-attained : let b = bMaxOf (bits 0x3C30_0000_0000_0000) in (lt nextDownOne b ≡ true) × (nextDownOne ⊘ b ≡ nextDownOne)
+-- at a log-moneyness of 2 ^ -60 b_max is 1 and the quotient 1 - 2 ^ -53 is attained; a price equal to b_max has the quotient 1 there, which would take the
+-- first branch
+pub quotient-attained :
+    let b = bMaxOf (bits 0x3C30_0000_0000_0000) in
+    (b ≡ one) × (lt nextDownOne b ≡ true) × (nextDownOne ⊘ b ≡ nextDownOne) × (b ⊘ b ≡ one)
 unfolding abs neg mul exp div lt ofBits
-quotient-attained = (refl, refl)
+quotient-attained = (refl, refl, refl, refl)
 
 pub one-taken : (low high : Counted Outcome) (mu : Float) → fromCallPriceBy (guardedWith low high) one mu ≡ low
 unfolding fromCallPriceBy lt le sub ofBits

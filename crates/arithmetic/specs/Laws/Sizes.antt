@@ -202,7 +202,8 @@ pub record NoLarger (v x : Float) : Type 0 where
   pub is-finite : T (finite x)
   pub bound : num x * den v ≤ num v * den x
 
-no-larger-round : (s : Bool) (a c : ℕ) (v : Float) → 0 < c → T (fits binary64 v) → T (finite v) → a * den v ≤ num v * c → NoLarger v (round binary64 s a c)
+no-larger-round : (s : Bool) (a c : ℕ) (v : Float) → 0 < c → T (fits binary64 v) → T (finite v) → a * den v ≤ num v * c
+    → NoLarger v (round binary64 s a c)
 no-larger-round s a c v C F p h =
     let b = round-at-most binary64 s a c v C F p h in
     record { is-finite = b .is-finite; bound = b .bound }
@@ -249,7 +250,8 @@ no-larger-zero v x z F p h q e =
     go n d m e a b r z h g = le-trans g (subst (λ (k : ℕ). (k * e + m * d) * b ≤ a * (d * e)) (sym z) (omega arith))
 
 -- x less y, y with the sign - and no smaller than x in size: not negative
-pub difference-plus : (x y : Float) → T (finite x) → T (finite y) → isSignMinus y ≡ true → num x * den y ≤ num y * den x → isSignMinus (x ⊖ y) ≡ false
+pub difference-plus : (x y : Float) → T (finite x) → T (finite y) → isSignMinus y ≡ true → num x * den y ≤ num y * den x
+    → isSignMinus (x ⊖ y) ≡ false
 unfolding sum
 difference-plus x y p q t h =
     ap isSignMinus (difference-is binary64 x y p q) ∙ rw t (go (isSignMinus x) (num x * den y) (num y * den x) (den x * den y) h)

@@ -87,14 +87,15 @@ over-nan nan = refl
 over-nan (inf s) = refl
 over-nan (fin s m e) = refl
 
-quotient-at-most : (p b : Float) → T (fits binary64 p) → T (fits binary64 b) → T (finite p) → T (finite b) → le p plusZero ≡ false → le b p ≡ false
-    → AtMost false nextDownOne (p ⊘ b)
+quotient-at-most : (p b : Float) → T (fits binary64 p) → T (fits binary64 b) → T (finite p) → T (finite b)
+    → le p plusZero ≡ false → le b p ≡ false → AtMost false nextDownOne (p ⊘ b)
 quotient-at-most p b F G s t h g =
     let P : T (positive p) = not-le-zero p s h in
     let less : lt p b ≡ true = not-le b p t s g in
     quotient-below-one p b F G P (lt-positive p b s (positive-sign p P) t less) less
 
-over-finite : (p b : Float) → T (fits binary64 p) → T (fits binary64 b) → T (finite b) → le p plusZero ≡ false → le b p ≡ false → NotTaken (p ⊘ b)
+over-finite : (p b : Float) → T (fits binary64 p) → T (fits binary64 b) → T (finite b) → le p plusZero ≡ false → le b p ≡ false
+    → NotTaken (p ⊘ b)
 unfolding le lt ofBits
 over-finite nan b F G t h g = subst NotTaken (sym (nan-over b)) nan-not-taken
 over-finite (inf true) b F G t h g = absurd (true≢false h)
@@ -106,7 +107,8 @@ over-finite (inf false) b F G t h g = absurd (go b t g)
     go (fin s m e) t g = true≢false g
 over-finite (fin s m e) b F G t h g = at-most-not-taken (fin s m e ⊘ b) (quotient-at-most (fin s m e) b F G tt t h g)
 
-number-not-taken : (x p : Float) → isNan x ≡ false → T (fits binary64 p) → le p plusZero ≡ false → le (bMaxOf x) p ≡ false → NotTaken (p ⊘ bMaxOf x)
+number-not-taken : (x p : Float) → isNan x ≡ false → T (fits binary64 p) → le p plusZero ≡ false → le (bMaxOf x) p ≡ false
+    → NotTaken (p ⊘ bMaxOf x)
 number-not-taken x p n F h g = over-finite p (bMaxOf x) F (exp-fits (neg half ⊗ abs x)) (b-max-small x n .is-finite) h g
 
 -- ---- NEITHER BRANCH IS TAKEN, whatever x is
@@ -185,7 +187,8 @@ module _ (by : Float → Float → Counted Outcome) where
   unfolding impliedBlackVolatilityNormalisedBy
   normalised-reached x p f = rw f refl
 
-  pub input-reached : (side : ℕ) (p f k t : Float) → firstRefusal side p f k t ≡ 0 → eq t plusZero ≡ false → le (priceBound side f k) p ≡ false →
+  pub input-reached : (side : ℕ) (p f k t : Float) → firstRefusal side p f k t ≡ 0 → eq t plusZero ≡ false
+      → le (priceBound side f k) p ≡ false →
       let v = normalisedTimeValue p (intrinsicValue side f k) (sqrt f ⊗ sqrt k) in
       le v minPositive ≡ false → impliedBlackVolatilityInputBy by side p f k t ≡ reply t (fromNormalisedPriceBy by (negativeAbsLogMoneyness f k) v)
   unfolding impliedBlackVolatilityInputBy fromTimeValueBy boundTests orElse
@@ -217,8 +220,8 @@ under-finite (inf false) (inf s) a u = absurd (false≢true u)
 under-finite (inf false) (fin s m e) a u = absurd (false≢true u)
 under-finite (fin s m e) b a u = tt
 
-pub within-bound : (x p : Float) → T (fits binary64 p) → T (finite x) → eq x plusZero ≡ false → lt plusZero p ≡ true → lt p (bMaxOf x) ≡ true
-    → WithinBound x p
+pub within-bound : (x p : Float) → T (fits binary64 p) → T (finite x) → eq x plusZero ≡ false
+    → lt plusZero p ≡ true → lt p (bMaxOf x) ≡ true → WithinBound x p
 unfolding fromNormalisedPrice
 within-bound x p F n z a u =
     let b = bMaxOf x in

@@ -7,7 +7,7 @@ use Rattle.arithmetic.specs.Operations.{one}
 use Rattle.arithmetic.specs.Sqrt.{sqrt}
 use Rattle.explicit_black.specs.Counted.{Option, Counted, Metered, have, mapped, limited}
 use Rattle.explicit_black.specs.Laws.Counted.{limited-enough, taken-off, limited-mapped}
-use Rattle.explicit_black.specs.Quote.{Outcome, total, refused, answer, refusal, volatility, reply, searched, totalAt}
+use Rattle.explicit_black.specs.Quote.{Outcome, total, refused, answer, refusal, volatilityOver, replyOver, searched, totalAt}
 use Rattle.explicit_black.specs.Internal.Quote.{LeftWithin}
 
 -- the outcome of a search, from what the search itself gives where n are allowed
@@ -19,16 +19,16 @@ pub enough-within : (n : ℕ) (m : Metered Outcome) (c : Counted Outcome) → m 
 enough-within n m c e h = subst (LeftWithin n) (sym (e ∙ limited-enough n c h)) (omega arith)
 
 -- the reply to a quote: an answer, or a refusal
-pub answers : (n left : ℕ) (time v : Float) (c : Counted Outcome) {w : Float}
-    → have (total v) left ≡ limited n c → w ≡ volatility time v → answer v w (n - left) ≡ reply time c
-answers n left time v c e f =
+pub answers : (n left : ℕ) (time root v : Float) (c : Counted Outcome) {w : Float}
+    → have (total v) left ≡ limited n c → w ≡ volatilityOver time root v → answer v w (n - left) ≡ replyOver time root c
+answers n left time root v c e f =
     let q = taken-off n left (total v) c e in
     let d : n - left ≡ c .count = omega arith in
     rw (q .0, f, d)
 
-pub refuses : (n left : ℕ) (time : Float) (number : ℕ) (c : Counted Outcome)
-    → have (refused number) left ≡ limited n c → refusal number (n - left) ≡ reply time c
-refuses n left time number c e =
+pub refuses : (n left : ℕ) (time root : Float) (number : ℕ) (c : Counted Outcome)
+    → have (refused number) left ≡ limited n c → refusal number (n - left) ≡ replyOver time root c
+refuses n left time root number c e =
     let q = taken-off n left (refused number) c e in
     let d : n - left ≡ c .count = omega arith in
     rw (q .0, d)

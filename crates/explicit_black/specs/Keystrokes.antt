@@ -8,7 +8,7 @@ use Rattle.arithmetic.specs.MulAdd.{mulAdd}
 use Rattle.arithmetic.specs.Exp.{exp}
 use Rattle.arithmetic.specs.Ln.{ln}
 use Rattle.bs_option_price.specs.BsOptionPrice.{normalisedBlack}
-use Rattle.explicit_black.specs.Quote.{answer, refusal, volatility, firstRefusal, fromTimeValue, fromPrice, fromQuote, impliedBlackVolatilityInput}
+use Rattle.explicit_black.specs.Quote.{answer, refusal, volatilityOver, firstRefusal, fromTimeValue, fromPrice, fromQuote, impliedBlackVolatilityInput}
 
 abbrev five : Float
 five = bits 0x4014_0000_0000_0000
@@ -50,7 +50,7 @@ pub record Keystrokes : Type 0 where
   pub expired : impliedBlackVolatilityInput 0 twenty hundredTwenty hundred plusZero ≡ answer plusZero plusZero 0
 
 pub keystrokes : Keystrokes
-unfolding sqrt mulAdd trunc exp ln max normalisedBlack impliedBlackVolatilityInput fromQuote firstRefusal fromPrice fromTimeValue volatility
+unfolding sqrt mulAdd trunc exp ln max normalisedBlack impliedBlackVolatilityInput fromQuote firstRefusal fromPrice fromTimeValue volatilityOver
     add sub mul div lt le eq isNan ofBits
 keystrokes = record {
   root-of-four = refl;

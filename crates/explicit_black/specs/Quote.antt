@@ -25,18 +25,23 @@ pub data Reply : Type 0 where
   answer : Float → Float → ℕ → Reply
   refusal : ℕ → ℕ → Reply
 
--- total / √time, rounded once; at time zero 0
-unfoldable pub volatility : Float → Float → Float
-unfolding sqrt
-volatility time v = cond (eq time plusZero) plusZero (v ⊘ sqrt time)
+-- total / root, rounded once, where root is that of the time; at time zero 0
+unfoldable pub volatilityOver : Float → Float → Float → Float
+volatilityOver time root v = cond (eq time plusZero) plusZero (v ⊘ root)
 
--- an outcome with its count, as an entry hands it back
-abbrev pub replyOf : Float → Outcome → ℕ → Reply
-replyOf time (total v) count = answer v (volatility time v) count
-replyOf time (refused number) count = refusal number count
+abbrev pub volatility : Float → Float → Float
+volatility time v = volatilityOver time (sqrt time) v
+
+-- an outcome with its count, as an entry hands it back that has the root of the time
+abbrev pub replyOf : Float → Float → Outcome → ℕ → Reply
+replyOf time root (total v) count = answer v (volatilityOver time root v) count
+replyOf time root (refused number) count = refusal number count
+
+abbrev pub replyOver : Float → Float → Counted Outcome → Reply
+replyOver time root c = replyOf time root (c .result) (c .count)
 
 abbrev pub reply : Float → Counted Outcome → Reply
-reply time c = replyOf time (c .result) (c .count)
+reply time c = replyOver time (sqrt time) c
 
 -- ---- `implied_black_volatility_normalised`
 

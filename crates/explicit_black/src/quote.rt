@@ -23,7 +23,7 @@ ghost use Rattle.arithmetic.specs.Sqrt.{sqrt};
 ghost use Rattle.bs_option_price.specs.BsOptionPrice.{negativeAbsLogMoneyness};
 ghost use Rattle.explicit_black.specs.Counted.{atOnce, mapped, limited};
 ghost use Rattle.explicit_black.specs.Internal.Searches.{viewQuantile};
-ghost use Rattle.explicit_black.specs.Quote.{impliedNormalisedVolatilityAtm, atTheMoney, totalAt, volatility, fromCallPrice, fromNormalisedPrice};
+ghost use Rattle.explicit_black.specs.Quote.{impliedNormalisedVolatilityAtm, atTheMoney, totalAt, volatilityOver, replyOver, fromCallPrice, fromNormalisedPrice};
 ghost use Rattle.explicit_black.specs.Quote.{firstRefusal, intrinsicValue, priceBound, boundTests, normalisedTimeValue};
 ghost use Rattle.explicit_black.specs.Quote.{fromTimeValue, fromPrice, fromQuote};
 ghost use Rattle.explicit_black.specs.Quote.{impliedBlackVolatilityNormalised, impliedBlackVolatilityInput};
@@ -60,10 +60,9 @@ fn are_finite(x: f64, y: f64) -> bool
     is_finite(x) && is_finite(y)
 }
 
-// total / √time; at time zero 0.
-fn volatility(total: f64, time: f64, root_time: f64) -> f64
-    requires { ⌜ «root_time» ≡ sqrt time ⌝ }
-    ensures { λ r. ⌜ r ≡ volatility time total ⌝ }
+// total / root_time; at time zero 0.
+pub fn volatility(total: f64, time: f64, root_time: f64) -> f64
+    ensures { λ r. ⌜ r ≡ volatilityOver time «root_time» total ⌝ }
 {
     if time == 0.0 { 0.0 } else { total / root_time }
 }
@@ -71,8 +70,8 @@ fn volatility(total: f64, time: f64, root_time: f64) -> f64
 impl Solved {
     // The reply to a quote that was allowed so many evaluations: the count is what its calls took off.
     fn reply(self, allowed: u64, time: f64, root_time: f64) -> Reply
-        requires { ⌜ («root_time» ≡ sqrt time) × LeftWithin allowed (viewSolved self) ⌝ }
-        ensures { λ r. ⌜ RepliesTo allowed time (viewSolved self) (viewReply r) ⌝ }
+        requires { ⌜ LeftWithin allowed (viewSolved self) ⌝ }
+        ensures { λ r. ⌜ RepliesTo allowed time «root_time» (viewSolved self) (viewReply r) ⌝ }
     {
         match self {
             Solved::Total(total, rest) => Reply::Answer {
@@ -209,7 +208,7 @@ pub fn first_refusal(side: u32, price: f64, forward: f64, strike: f64, time: f64
     if time < 0.0 { 4 } else { 0 }
 }
 
-pub(crate) fn intrinsic_value(side: u32, forward: f64, strike: f64) -> f64
+pub fn intrinsic_value(side: u32, forward: f64, strike: f64) -> f64
     ensures { λ r. ⌜ r ≡ intrinsicValue side forward strike ⌝ }
 {
     if side == 0 {
@@ -220,7 +219,7 @@ pub(crate) fn intrinsic_value(side: u32, forward: f64, strike: f64) -> f64
 }
 
 // No price is above the forward of a call, or the strike of a put.
-fn price_bound(side: u32, forward: f64, strike: f64) -> f64
+pub fn price_bound(side: u32, forward: f64, strike: f64) -> f64
     ensures { λ r. ⌜ r ≡ priceBound side forward strike ⌝ }
 {
     if side == 0 { forward } else { strike }
@@ -294,6 +293,33 @@ pub fn from_roots(
 {
     let time_value = normalised_time_value(price, intrinsic, root_forward * root_strike);
     from_time_value(forward, strike, time_value, allowed)
+}
+
+// The reply from a price that passed tests 1 to 6, and the roots of forward, strike and time.
+pub fn reply_from_roots(
+    price: f64,
+    intrinsic: f64,
+    forward: f64,
+    strike: f64,
+    root_forward: f64,
+    root_strike: f64,
+    time: f64,
+    root_time: f64,
+) -> Reply
+    ensures { λ r. ⌜ viewReply r ≡ replyOver time «root_time»
+        (fromTimeValue (negativeAbsLogMoneyness forward strike) (normalisedTimeValue price intrinsic («root_forward» ⊗ «root_strike»))) ⌝ }
+{
+    let allowed = Allowance::new(MAX_EVALUATIONS);
+    let solved = from_roots(
+        price,
+        intrinsic,
+        forward,
+        strike,
+        root_forward,
+        root_strike,
+        allowed,
+    );
+    solved.reply(MAX_EVALUATIONS, time, root_time)
 }
 
 // Solves from the price, after tests 1 to 4: tests 5 and 6, and those of the time value.

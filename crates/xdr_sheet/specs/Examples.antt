@@ -5,7 +5,7 @@ use Prim.Native.Nat.{ℕ}
 use mathlib.Core.List.{List, [], _∷_, _++_}
 use lib.Ieee.{add, sub, mul, div, lt, le, eq, isNan, ofBits, toBits}
 use Rattle.arithmetic.specs.Sqrt.{sqrt}
-use Rattle.explicit_black.specs.Quote.{volatility, firstRefusal, fromTimeValue, fromPrice, fromQuote, impliedBlackVolatilityInput}
+use Rattle.explicit_black.specs.Quote.{volatilityOver, firstRefusal, fromTimeValue, fromPrice, fromQuote, impliedBlackVolatilityInput}
 use Rattle.explicit_black.specs.Price.{priceRefusal, priceOf, blackPrice}
 use Rattle.xdr_sheet.specs.Text.{ascii, priceLine}
 use Rattle.xdr_sheet.specs.Sheet.{text}
@@ -47,7 +47,7 @@ sample =
 
 pub text-of-sample : text sample
     ≡ ascii "1 V 0000000000000000 0000000000000000 0\n2 V 7ff0000000000000 7ff0000000000000 0\n3 R 7 0\nT 2 1\n"
-unfolding text impliedBlackVolatilityInput fromQuote firstRefusal fromPrice fromTimeValue volatility sqrt add sub mul div lt le eq isNan ofBits toBits
+unfolding text impliedBlackVolatilityInput fromQuote firstRefusal fromPrice fromTimeValue volatilityOver sqrt add sub mul div lt le eq isNan ofBits toBits
 text-of-sample = refl
 
 -- no quotes

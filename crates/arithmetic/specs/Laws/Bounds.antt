@@ -8,7 +8,6 @@ use mathlib.Core.Bool.{Bool, true, false, _&&_, _||_, true≢false}
 use lib.IntN.{pos}
 use lib.Dec.{T, ltb, eqb, ltb→lt, eqb→eq}
 use lib.Pow.{pow-pos}
-use borrow.Author.Tests.{ltb-true}
 use lib.Ieee.{Float, nan, inf, fin, Format, binary64, low, up, down, size, units, round, neg, lt, le, fits}
 use lib.Ieee.Fits.{round-is}
 use lib.Ieee.Nearest.{closest, closest-mono}
@@ -20,8 +19,6 @@ use Rattle.arithmetic.specs.Laws.Times.{cross, has-sign, has-finite, of-
 use Rattle.arithmetic.specs.Laws.Rounding.{round-value, round-under}
 use Rattle.arithmetic.specs.Laws.Representable.{round-representable, grid-under}
 use Rattle.arithmetic.specs.Laws.Identities.{round-neg}
-use Rattle.arithmetic.specs.Laws.Choices.{refuted}
-use Rattle.arithmetic.specs.Laws.Compare.{lt-is}
 
 -- ---- an order of two values with the sign +, as one of fractions
 pub le-cross : (x y : Float) → T (finite x) → T (finite y) → isSignMinus x ≡ false → isSignMinus y ≡ false → T (le x y)
@@ -41,12 +38,6 @@ le-cross (fin false m e) (fin false n d) p q s t h =
     go true v f g t = f tt
     go false true f g t = g tt
     go false false f g t = absurd t
-
-pub lt-not-le : (x y : Float) → T (finite x) → T (finite y) → isSignMinus x ≡ false → isSignMinus y ≡ false → lt x y ≡ true → le y x ≡ false
-lt-not-le x y p q s t h = refuted (le y x) (λ u.
-    let l : num x * den y < num y * den x = ltb-true (num x * den y) (num y * den x) (sym (lt-is x y p q ∙ rw (s, t) refl) ∙ h) in
-    let g : num y * den x ≤ num x * den y = le-cross y x q p t s u in
-    omega arith)
 
 -- ---- rounding keeps the order of two magnitudes, so it does not pass a value of the format
 -- the magnitude is the same with either sign

@@ -5,9 +5,9 @@ use mathlib.Core.Logic.{inl, inr}
 use Prim.Native.Nat.{ℕ, zero, suc, _+_, _*_, _^_, _≤_, _<_}
 use native.Mathlib.Nat.{mul-assoc, mul-comm, mul-left-comm, mul-pos, eq-or-lt-of-le}
 use native.Mathlib.Omega.{arith}
-use borrow.Author.Tests.{lt-ltb, ltb-true}
-use mathlib.Core.Bool.{Bool, true, false, _&&_, _||_, or-true, true≢false, false≢true}
-use lib.Dec.{T, ltb, eqb, eqb-refl, lt→ltb}
+use borrow.Author.Tests.{lt-ltb, ltb-true, ne-eqb}
+use mathlib.Core.Bool.{Bool, true, false, not, _&&_, _||_, or-true, and-false, true≢false, false≢true}
+use lib.Dec.{T, ltb, eqb, eqb·suc-zero, eqb·zero-suc, eqb-refl, lt→ltb, ltb→lt}
 use lib.Pow.{pow-pos}
 use lib.Ieee.{Float, nan, inf, fin, up, down, below, level, lt, eq, le, ne, isNan, ofBits}
 use lib.Ieee.Bits.{is-true}
@@ -15,6 +15,7 @@ use lib.Ieee.Compare.{nan-differs}
 use lib.Ieee.Scale.{finite}
 use lib.Ieee.Positive.{num, den, den-pos, positive, first-pos}
 use Rattle.arithmetic.specs.Laws.Numbers.{lt-or-le}
+use Rattle.arithmetic.specs.Laws.Choices.{refuted}
 use Rattle.arithmetic.specs.Operations.{plusZero}
 use Rattle.arithmetic.specs.Laws.Ratio.{ltb-ratio, eqb-ratio, zero-ratio, add-ratio}
 use Rattle.arithmetic.specs.Basic.{isSignMinus}
@@ -102,6 +103,28 @@ unfolding le
 not-le x y p q h =
     lt-is y x q p
     ∙ not-at-most (isSignMinus x) (isSignMinus y) (num x * den y) (num y * den x) (sym (rw (lt-is x y p q, eq-is x y p q) refl) ∙ h)
+
+at-most-not : (s t : Bool) (a b : ℕ) → below t b s a ≡ true → (below s a t b || level s a t b) ≡ false
+at-most-not false false a b h = let l = ltb-true b a h in rw (refuted (ltb a b) (λ u. omega (arith, ltb→lt a b u)), ne-eqb a b (λ (e : a ≡ b). omega arith))
+at-most-not true true a b h = let l = ltb-true a b h in rw (ne-eqb a b (λ (e : a ≡ b). omega arith), refuted (ltb b a) (λ u. omega (arith, ltb→lt b a u)))
+at-most-not false true zero zero h = absurd (false≢true h)
+at-most-not false true (suc a) b h = rw (eqb·suc-zero a) (and-false (eqb (suc a) b))
+at-most-not false true zero (suc b) h = rw (eqb·zero-suc b)
+at-most-not true false a b h = absurd (false≢true h)
+
+pub lt-not-le : (x y : Float) → T (finite x) → T (finite y) → lt x y ≡ true → le y x ≡ false
+unfolding le
+lt-not-le x y p q h =
+    rw (lt-is y x q p, eq-is y x q p)
+    (at-most-not (isSignMinus y) (isSignMinus x) (num y * den x) (num x * den y) (sym (lt-is x y p q) ∙ h))
+
+pub lt-is-not-le : (x y : Float) → T (finite x) → T (finite y) → lt x y ≡ not (le y x)
+lt-is-not-le x y p q = go (lt x y) (le y x) (lt-not-le x y p q) (not-le y x q p)
+  where
+    go : (u v : Bool) → (u ≡ true → v ≡ false) → (v ≡ false → u ≡ true) → u ≡ not v
+    go true v f g = rw (f refl)
+    go false true f g = refl
+    go false false f g = g refl
 
 -- what is above a value that is not negative is above 0
 pub lt-positive : (x y : Float) → T (finite x) → isSignMinus x ≡ false → T (finite y) → lt x y ≡ true → T (positive y)

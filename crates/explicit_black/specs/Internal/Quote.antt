@@ -8,7 +8,7 @@ use Rattle.explicit_black.specs.declared.quote.Solved.the-variants.{Tota
 use Rattle.explicit_black.specs.declared.quote.Tested.{Tested}
 use Rattle.explicit_black.specs.declared.quote.Tested.the-variants.{Total as TotalDecided, Refused as RefusalDecided, Open}
 use Rattle.explicit_black.specs.Counted.{Option, some, none, Counted, Metered, have, spent, limited}
-use Rattle.explicit_black.specs.Quote.{Outcome, total, refused, Reply, reply}
+use Rattle.explicit_black.specs.Quote.{Outcome, total, refused, Reply, replyOver}
 
 -- the outcome with how many evaluations are left, or an allowance that was spent
 abbrev pub viewSolved : Solved → Metered Outcome
@@ -27,6 +27,6 @@ abbrev pub LeftWithin : ℕ → Metered Outcome → Type 0
 LeftWithin n (have r left) = left ≤ n
 LeftWithin n spent = ⊥
 
--- where m is what a caller who is allowed n gets of an outcome c, r is the reply of c at that time
-abbrev pub RepliesTo : ℕ → Float → Metered Outcome → Reply → Type 0
-RepliesTo n time m r = (c : Counted Outcome) → m ≡ limited n c → r ≡ reply time c
+-- where m is what a caller who is allowed n gets of an outcome c, r is the reply of c at that time, with that root of it
+abbrev pub RepliesTo : ℕ → Float → Float → Metered Outcome → Reply → Type 0
+RepliesTo n time root m r = (c : Counted Outcome) → m ≡ limited n c → r ≡ replyOver time root c

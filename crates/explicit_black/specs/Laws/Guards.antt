@@ -18,9 +18,9 @@ use Rattle.arithmetic.specs.Basic.{isSignMinus, abs, isFinite}
 use Rattle.arithmetic.specs.Sqrt.{sqrt}
 use Rattle.arithmetic.specs.Exp.{exp}
 use Rattle.arithmetic.specs.Laws.Choices.{on-false}
-use Rattle.arithmetic.specs.Laws.Compare.{lt-is, not-le, lt-positive, above-zero, not-le-zero, finite-no-nan}
+use Rattle.arithmetic.specs.Laws.Compare.{lt-is, not-le, lt-not-le, lt-positive, above-zero, not-le-zero, finite-no-nan}
 use Rattle.arithmetic.specs.Laws.Times.{positive-sign}
-use Rattle.arithmetic.specs.Laws.Bounds.{AtMost, lt-not-le}
+use Rattle.arithmetic.specs.Laws.Bounds.{AtMost}
 use Rattle.arithmetic.specs.Laws.PowerBounds.{Small, small-le}
 use Rattle.arithmetic.specs.Laws.ExpFits.{exp-fits}
 use Rattle.arithmetic.specs.Laws.ExpBounds.{exp-minus}
@@ -236,8 +236,8 @@ within-bound x p F n z a u =
       not-taken = at-most-not-taken q most;
       same =
           rw (
-            lt-not-le plusZero p (zero-parts .3) s (zero-parts .2) (positive-sign p P) a,
-            lt-not-le p b s t (positive-sign p P) (positive-sign b B) u,
+            lt-not-le plusZero p (zero-parts .3) s a,
+            lt-not-le p b s t u,
             abs-zero x,
             z,
           ) (sym (call-price-by unguarded unguarded-agrees q (two ⊘ abs x) (at-most-not-taken q most)));

@@ -80,7 +80,7 @@ normalised-kind x p =
     (in-both Kind (le b p) (in-both KindAtOnce (eq p b) infinity-kind (refused-kind 8 tt tt))
     (in-both Kind (eq y plusZero) (money-kind p) (call-price-kind (p ⊘ b) (two ⊘ y) (div-fits binary64 two y))))
 
-from-time-value-kind : (x v : Float) → Kind (fromTimeValue x v)
+pub from-time-value-kind : (x v : Float) → Kind (fromTimeValue x v)
 unfolding fromTimeValue
 from-time-value-kind x v = in-both Kind (le v minPositive) (in-both KindAtOnce (le plusZero v) zero-kind (refused-kind 7 tt tt)) (normalised-kind x v)
 

@@ -22,12 +22,12 @@ use Rattle.arithmetic.specs.Laws.Quotients.{div-no-nan, two-over-root}
 use Rattle.arithmetic.specs.Laws.Zeros.{plusZero-is}
 use Rattle.bs_option_price.specs.BsOptionPrice.{negativeAbsLogMoneyness}
 use Rattle.explicit_black.specs.Counted.{Counted, atOnce}
-use Rattle.explicit_black.specs.Quote.{Outcome, total, refused, Reply, answer, refusal, reply, replyOf, volatility}
+use Rattle.explicit_black.specs.Quote.{Outcome, total, refused, Reply, answer, refusal, reply, replyOf, volatility, volatilityOver}
 use Rattle.explicit_black.specs.Quote.{fromNormalisedPrice, impliedBlackVolatilityNormalised, firstRefusal, intrinsicValue, priceBound}
 use Rattle.explicit_black.specs.Quote.{normalisedTimeValue, fromTimeValue, fromPrice, fromQuote, impliedBlackVolatilityInput}
 use Rattle.explicit_black.specs.Demand.{compared}
 use Rattle.explicit_black.specs.Laws.Tests.{from-price-is}
-use Rattle.explicit_black.specs.Laws.Kinds.{Kind, normalised-kind, from-price-kind}
+use Rattle.explicit_black.specs.Laws.Kinds.{Kind, normalised-kind, from-time-value-kind, from-price-kind}
 use Rattle.explicit_black.specs.Laws.Kinds.{total-at-once, refused-at-once, total-at-root, refused-no-root}
 use Rattle.explicit_black.specs.Laws.ZeroPrice.{bound-above, or-right}
 
@@ -73,7 +73,7 @@ abbrev IsNumber : Float → Type 0
 IsNumber w = (isNan w ≡ false) × T (fits binary64 w)
 
 volatility-number : (t v : Float) → isFinite t ≡ true → lt t plusZero ≡ false → T (fits binary64 t) → isNan v ≡ false → IsNumber (volatility t v)
-unfolding volatility
+unfolding volatilityOver
 volatility-number t v p l F n = by-test IsNumber (eq t plusZero) (λ e. zero-number) (λ e. quotient (time-positive t p l e))
   where
     zero-number : IsNumber plusZero
@@ -121,9 +121,12 @@ refused-facts m l h = record {
 compared-reply : (t : Float) (c : Counted Outcome) → compared (reply t c) ≡ c
 compared-reply t c = go (c .result)
   where
-    go : (r : Outcome) → compared (replyOf t r (c .count)) ≡ record { result = r; count = c .count }
+    go : (r : Outcome) → compared (replyOf t (sqrt t) r (c .count)) ≡ record { result = r; count = c .count }
     go (total v) = refl
     go (refused m) = refl
+
+pub time-value-count : (x v : Float) → fromTimeValue x v .count ≤ 2263
+time-value-count x v = kind-count (fromTimeValue x v) (from-time-value-kind x v)
 
 -- ---- of the normalised entry
 pub normalised-count : (x p : Float) → fromNormalisedPrice x p .count ≤ 2263

@@ -13,14 +13,14 @@ unfolding impliedBlackVolatilityNormalised
 returns c = rw (denied _ _ (c .before .are-finite .ensures) (c .if1 .taken))
 
 reply-requires : tie.Need-reply-requires
-reply-requires c κs = (root-one, enough-within 2263 _ _ (rw (c .before .new .ensures) at (c .from-normalised-price .ensures)) (normalised-count _ _))
+reply-requires c κs = enough-within 2263 _ _ (rw (c .before .new .ensures) at (c .from-normalised-price .ensures)) (normalised-count _ _)
 
 returns-2 : tie.Need-returns-2
 unfolding impliedBlackVolatilityNormalised
 returns-2 c =
     let at-outcome = c .before in
     let at-test = at-outcome .before .before in
-    rw (affirmed _ _ (at-test .before .are-finite .ensures) (at-test .if1 .left))
+    rw (affirmed _ _ (at-test .before .are-finite .ensures) (at-test .if1 .left), ← root-one)
     (c .reply .ensures _ (rw (at-outcome .before .new .ensures) at (at-outcome .from-normalised-price .ensures)))
 
 pub implied-black-volatility-normalised-spec : {M : Type 1} → statement M

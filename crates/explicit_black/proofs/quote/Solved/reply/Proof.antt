@@ -10,26 +10,26 @@ sub-t12 : tie.Need-sub-t12
 sub-t12 c =
     let at-volatility = c .before in
     let at-self = at-volatility .before .before in
-    rw (c .left .ensures) (rw (at-self .self .given .1) at (at-self .before .before .pre .1))
+    rw (c .left .ensures) (rw (at-self .self .given .1) at (at-self .before .before .pre))
 
 sub-t14 : tie.Need-sub-t14
 sub-t14 c =
     let at-self = c .before .before in
-    rw (c .left2 .ensures) (rw (at-self .self2 .given .1) at (at-self .before .before .pre .1))
+    rw (c .left2 .ensures) (rw (at-self .self2 .given .1) at (at-self .before .before .pre))
 
 returns : tie.Need-returns
 returns c =
     let at-volatility = c .before in
     let at-self = at-volatility .before .before in
-    rw (c .left .ensures) (λ d e. answers _ _ _ _ d (seen viewSolved e (at-self .self .given .1)) (at-volatility .volatility .ensures))
+    rw (c .left .ensures) (λ d e. answers _ _ _ _ _ d (seen viewSolved e (at-self .self .given .1)) (at-volatility .volatility .ensures))
 
 returns-2 : tie.Need-returns-2
 returns-2 c =
     let at-self = c .before .before in
-    rw (c .left2 .ensures) (λ d e. refuses _ _ _ _ d (seen viewSolved e (at-self .self2 .given .1)))
+    rw (c .left2 .ensures) (λ d e. refuses _ _ _ _ _ d (seen viewSolved e (at-self .self2 .given .1)))
 
 returns-3 : tie.Need-returns-3
-returns-3 c = absurd (rw (c .enum-told .given .1) at (c .before .before .pre .1))
+returns-3 c = absurd (rw (c .enum-told .given .1) at (c .before .before .pre))
 
 pub reply-spec : {M : Type 1} → statement M
 reply-spec =

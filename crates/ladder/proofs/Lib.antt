@@ -1,0 +1,2 @@
+-- Laws that only the proofs of the ladder cite.
+mod Places

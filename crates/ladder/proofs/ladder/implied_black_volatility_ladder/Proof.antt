@@ -1,0 +1,24 @@
+-- `ladder::implied_black_volatility_ladder` meets its contract: by the length tests. Assumes nothing.
+use borrow.Author.Needs.{needs}
+use borrow.Author.Tests.{eq-eqb, ne-eqb}
+use Rattle.ladder.specs.Ladder.{ladder}
+use Rattle.ladder.proofs.ladder.implied_black_volatility_ladder.Statement.{statement}
+use Rattle.ladder.proofs.ladder.implied_black_volatility_ladder.Tie as tie
+
+returns : tie.Need-returns
+unfolding ladder
+returns c = rw (← c .before .length-refusal .ensures, ne-eqb _ _ (c .if1 .taken))
+
+returns-2 : tie.Need-returns-2
+unfolding ladder
+returns-2 c =
+    let lent-back = c .before .before .before .before in
+    let solved = lent-back .before .before .before .before in
+    let lent = solved .before .before .before .before in
+    let accepted = lent .before in
+    rw (← accepted .before .length-refusal .ensures, eq-eqb _ _ (accepted .if1 .left)) (solved .solve-places .ensures)
+
+pub implied-black-volatility-ladder-spec : {M : Type 1} → statement M
+implied-black-volatility-ladder-spec =
+    tie.close
+    (tie.spec (λ c κs. tt) returns (λ c κs. search needs) (λ c. search needs) (λ c. search needs) (λ c. search needs) (λ c. search needs) returns-2)

@@ -1,0 +1,120 @@
+// One place of a ladder: its quote solved with the roots of forward and time at hand.
+use crate::strike_root::StrikeRoots;
+use crate::strike_root::strike_root;
+use explicit_black::quote::Reply;
+use explicit_black::quote::Tested;
+use explicit_black::quote::bound_tests;
+use explicit_black::quote::first_refusal;
+use explicit_black::quote::intrinsic_value;
+use explicit_black::quote::price_bound;
+use explicit_black::quote::reply_from_roots;
+use explicit_black::quote::volatility;
+ghost use mathlib.Core.Path.{_≡_};
+ghost use Prim.Native.Nat.{_+_, _^_, _<_};
+ghost use Rattle.arithmetic.specs.Sqrt.{sqrt};
+ghost use Rattle.explicit_black.specs.Quote.{refusal, impliedBlackVolatilityInput};
+ghost use Rattle.explicit_black.specs.Replies.{viewReply};
+ghost use Rattle.ladder.specs.Ladder.{totalOf, volatilityOf, countOf, numberOf, takesRoot, rootsAfter};
+
+// The reply to a place's quote, and the strike roots taken up to that place.
+pub struct Solved {
+    pub reply: Reply,
+    pub roots: StrikeRoots,
+}
+
+// What is written at a place.
+pub struct Place {
+    pub total: f64,
+    pub volatility: f64,
+    pub count: u64,
+    pub number: u32,
+}
+
+fn refused(number: u32, roots: StrikeRoots) -> Solved
+    ensures { λ r. ⌜ (viewReply (r .reply) ≡ refusal number 0) × (r .roots .taken ≡ roots .taken) ⌝ }
+{
+    Solved {
+        reply: Reply::Refusal {
+            number: number,
+            count: 0,
+        },
+        roots: roots,
+    }
+}
+
+// Tests 1 to 6, and what follows where they leave the price below its bound at a time above zero: only there is the strike's root taken.
+pub(crate) fn solve_place(
+    side: u32,
+    price: f64,
+    forward: f64,
+    strike: f64,
+    time: f64,
+    root_forward: f64,
+    root_time: f64,
+    roots: StrikeRoots,
+) -> Solved
+    requires { ⌜ («root_forward» ≡ sqrt forward) × («root_time» ≡ sqrt time) × (roots .taken + 1 < 2 ^ 64) ⌝ }
+    ensures { λ r. ⌜ (viewReply (r .reply) ≡ impliedBlackVolatilityInput side price forward strike time)
+        × (r .roots .taken ≡ rootsAfter (takesRoot side price forward strike time) (roots .taken)) ⌝ }
+{
+    let number = first_refusal(side, price, forward, strike, time);
+    if number != 0 {
+        return refused(number, roots);
+    }
+    let intrinsic = intrinsic_value(side, forward, strike);
+    match bound_tests(price, intrinsic, price_bound(side, forward, strike), time) {
+        Tested::Total(total) => Solved {
+            reply: Reply::Answer {
+                total: total,
+                volatility: volatility(total, time, root_time),
+                count: 0,
+            },
+            roots: roots,
+        },
+        Tested::Refused(number) => refused(number, roots),
+        Tested::Open => {
+            let taken = strike_root(strike, roots);
+            let roots = taken.roots;
+            Solved {
+                reply: reply_from_roots(
+                    price,
+                    intrinsic,
+                    forward,
+                    strike,
+                    root_forward,
+                    taken.root,
+                    time,
+                    root_time,
+                ),
+                roots: roots,
+            }
+        }
+    }
+}
+
+impl Place {
+    // Of a refusal the figures are zeros; an answer has the number 0.
+    pub fn of(reply: Reply) -> Place
+        ensures { λ r. ⌜ (r .total ≡ totalOf (viewReply reply)) × (r .volatility ≡ volatilityOf (viewReply reply))
+            × (r .count ≡ countOf (viewReply reply)) × (r .number ≡ numberOf (viewReply reply)) ⌝ }
+    {
+        match reply {
+            Reply::Answer {
+                total,
+                volatility,
+                count,
+            } => Place {
+                total: total,
+                volatility: volatility,
+                count: count,
+                number: 0,
+            },
+            Reply::Refusal { number, count } => Place {
+                total: 0.0,
+                volatility: 0.0,
+                count: count,
+                number: number,
+            },
+        }
+    }
+}

@@ -1,5 +1,5 @@
-/* The Black volatility of a quote, the price of a volatility, sheets of quotes, and the functions that these are computed with: the static library
-   of the crate `exports`, for x86-64 Linux. docs/REQUIREMENTS.md says what each call computes; section numbers below are its.
+/* The Black volatility of a quote, the price of a volatility, ladders and sheets of quotes, and the functions that these are computed with: the
+   static library of the crate `exports`, for x86-64 Linux. docs/REQUIREMENTS.md says what each call computes; section numbers below are its.
 
    Every function takes any bits and ends. It keeps no state, so that threads may call it at once, uses no heap, and calls nothing of its
    caller's.
@@ -14,7 +14,7 @@
    Where a result is NaN, only that is promised. On x86-64 it is 0x7FF8000000000000, 0xFFF8000000000000, or an argument's pattern, whose sign
    may be turned and whose quiet bit may be set: it may be signalling. No total, no volatility and no price is NaN.
 
-   Memory. A pointer to a number is aligned and not null; bytes need no alignment. A length is 64 bits wide on every processor. Where it is 0
+   Memory. A pointer to numbers is aligned and not null; bytes need no alignment. A length is 64 bits wide on every processor. Where it is 0
    nothing is read or written, and the pointer may be null. What a call writes to overlaps nothing else that the call is given.
 
    Linking. The archive needs memcpy and nothing else. The same code compiled for another processor may need memset, memmove and helpers of
@@ -71,6 +71,8 @@ double quoter_inverse_gaussian_survival(double x, double mu);
      9  no volatility was found
     10  of a sheet: under 4 bytes, more than 1,000 quotes, or not 4 + 36 times their number of bytes
     11  of quoter_price alone: volatility is below 0
+    12  of a ladder: not all six lengths are equal
+    13  of a ladder: more than 500 strikes
    Refusals other than 9 have 0 evaluations. quoter_normalised returns 0, 2, 7, 8 or 9, and answers as at time 1. */
 uint32_t quoter_quote(uint32_t side, double price, double forward, double strike, double time,
                       double *total, double *volatility, uint64_t *count);
@@ -83,6 +85,18 @@ uint32_t quoter_normalised(double log_moneyness, double price, double *total, do
    Otherwise returns the number of a refusal: nothing is written. Of the refusals above 1 to 4 come first, 2 for the volatility too, and then 11:
    minus zero is not below 0. */
 uint32_t quoter_price(uint32_t side, double volatility, double forward, double strike, double time, double *price);
+
+/* A ladder (section 14.3): quotes that share side, forward and time, each with a strike and a price. A length, in places, comes after each of the six
+   pointers.
+   Returns 0 where the ladder is solved. Each place then holds what quoter_quote gives for its quote by itself: total volatility, volatility and number
+   of evaluations, and in `refusals` 0; or where that quote is refused 0 in `totals` and in `volatilities`, its number of evaluations, and the
+   number of its refusal. The number of strikes whose root was taken is written to `roots`: one for each place that passes tests 1 to 4 at a time above 0
+   with a price below its bound, the forward of a call or the strike of a put.
+   Otherwise returns 12 or 13, the first that applies: nothing is written. */
+uint32_t quoter_ladder(uint32_t side, double forward, double time,
+                       const double *strikes, uint64_t strike_count, const double *prices, uint64_t price_count,
+                       double *totals, uint64_t total_count, double *volatilities, uint64_t volatility_count,
+                       uint64_t *counts, uint64_t count_count, uint32_t *refusals, uint64_t refusal_count, uint64_t *roots);
 
 /* The number of quotes in a sheet (section 11), whose bytes are in XDR (RFC 4506), the highest byte first: the number of its quotes in 4 bytes,
    then 36 bytes a quote: side in 4, price, forward, strike and time in 8 each.

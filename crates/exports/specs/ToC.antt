@@ -6,6 +6,7 @@ use lib.Ieee.{Float}
 use lib.ListN.{length}
 use Rattle.explicit_black.specs.Quote.{Reply, answer, refusal}
 use Rattle.explicit_black.specs.Price.{PriceReply, price, refusal as refusalOfPrice}
+use Rattle.ladder.specs.Ladder.{LadderReply, solved, refused as refusedLadder, Ladder}
 use Rattle.xdr_sheet.specs.Sheet.{Size, quotes, refused, SheetReply, replied, noQuote}
 use Rattle.xdr_sheet.specs.Text.{fitsInto, overlaid}
 use Rattle.xdr_sheet.specs.Printing.{Step}
@@ -36,6 +37,22 @@ pub data PriceToC : Type 0 where
 abbrev pub priceToC : Float → PriceReply → PriceToC
 priceToC old (price p) = handedPrice 0 p
 priceToC old (refusalOfPrice number count) = handedPrice number old
+
+-- ---- a ladder: the number, how many strike roots were taken at their place, and the four slices
+pub data LadderToC : Type 0 where
+  handedLadder : ℕ → ℕ → List Float → List Float → List ℕ → List ℕ → LadderToC
+
+-- 0 with how many; or the refusal's number, and what stood there before; the slices as the ladder leaves them
+abbrev pub ladderNumber : LadderReply → ℕ
+ladderNumber (solved roots) = 0
+ladderNumber (refusedLadder number count) = number
+
+abbrev pub rootsToC : ℕ → LadderReply → ℕ
+rootsToC old (solved roots) = roots
+rootsToC old (refusedLadder number count) = old
+
+abbrev pub ladderToC : ℕ → Ladder → LadderToC
+ladderToC old l = handedLadder (ladderNumber (l .result)) (rootsToC old (l .result)) (l .totals) (l .volatilities) (l .counts) (l .refusals)
 
 -- ---- a sheet's size: the number, and how many quotes it has at their place
 pub data SizeToC : Type 0 where

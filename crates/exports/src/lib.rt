@@ -4,6 +4,7 @@ use explicit_black::curves::Evaluation;
 use explicit_black::curves::SurvivalEvaluation;
 use explicit_black::price::PriceReply;
 use explicit_black::quote::Reply;
+use ladder::ladder::LadderReply;
 use xdr_sheet::sheet::SheetReply;
 use xdr_sheet::sheet::Size;
 use xdr_sheet::tally::Tally;
@@ -22,9 +23,10 @@ ghost use Rattle.explicit_black.specs.Curves.{inverseGaussianCdf, inverseGaussi
 ghost use Rattle.explicit_black.specs.Quote.{impliedBlackVolatilityNormalised, impliedBlackVolatilityInput};
 ghost use Rattle.explicit_black.specs.Price.{blackPrice};
 ghost use Rattle.explicit_black.specs.Replies.{viewReply};
+ghost use Rattle.ladder.specs.Ladder.{ladder};
 ghost use Rattle.xdr_sheet.specs.Sheet.{size, sheetReply};
 ghost use Rattle.xdr_sheet.specs.Printing.{step};
-ghost use Rattle.exports.specs.ToC.{handedReply, replyToC, sheetReplyToC, handedPrice, priceToC, handedSize, sizeToC, handedLine, lineToC};
+ghost use Rattle.exports.specs.ToC.{handedReply, replyToC, sheetReplyToC, handedPrice, priceToC, handedLadder, ladderToC, handedSize, sizeToC, handedLine, lineToC};
 
 #[no_mangle]
 pub extern "C" fn quoter_sqrt(x: f64) -> f64
@@ -243,6 +245,44 @@ pub extern "C" fn quoter_price(
             0
         }
         PriceReply::Refusal { number, count: _ } => number,
+    }
+}
+
+// Quotes that share side, forward and time. 0: their values are written, and how many strike roots were taken. Else the
+// number of the refusal, whose count is 0, and nothing is written.
+#[no_mangle]
+pub extern "C" fn quoter_ladder(
+    side: u32,
+    forward: f64,
+    time: f64,
+    strikes: &[f64],
+    prices: &[f64],
+    totals: &mut [f64],
+    volatilities: &mut [f64],
+    counts: &mut [u64],
+    refusals: &mut [u32],
+    roots: &mut u64,
+) -> u32
+    ensures { λ r. ⌜ handedLadder r (now (roots .exit)) (now (totals .exit)) (now (volatilities .exit)) (now (counts .exit)) (now (refusals .exit))
+        ≡ ladderToC (now (roots .entry)) (ladder side forward time (now (strikes .entry)) (now (prices .entry))
+        (now (totals .entry)) (now (volatilities .entry)) (now (counts .entry)) (now (refusals .entry))) ⌝ }
+{
+    match ladder::ladder::implied_black_volatility_ladder(
+        side,
+        forward,
+        time,
+        strikes,
+        prices,
+        totals,
+        volatilities,
+        counts,
+        refusals,
+    ) {
+        LadderReply::Solved { roots: n } => {
+            *roots = n;
+            0
+        }
+        LadderReply::Refusal { number, count: _ } => number,
     }
 }
 

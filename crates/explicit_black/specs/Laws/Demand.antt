@@ -357,32 +357,32 @@ module _ (n : ℤ) (p f k t p' f' k' t' : ℕ) (h : ComparableFigures (bits p) (
 -- ---- the call 0 1 100 120 1 and the put 1 4 480 400 1 of REQUIREMENTS 12.2 agree: the hypotheses are met
 
 -- the bits of 1, 100 and 120, and of 4, 480 and 400
-abbrev callPrice : ℕ
+abbrev pub callPrice : ℕ
 callPrice = 0x3FF0_0000_0000_0000
 
-abbrev callForward : ℕ
+abbrev pub callForward : ℕ
 callForward = 0x4059_0000_0000_0000
 
-abbrev callStrike : ℕ
+abbrev pub callStrike : ℕ
 callStrike = 0x405E_0000_0000_0000
 
-abbrev putPrice : ℕ
+abbrev pub putPrice : ℕ
 putPrice = 0x4010_0000_0000_0000
 
-abbrev putForward : ℕ
+abbrev pub putForward : ℕ
 putForward = 0x407E_0000_0000_0000
 
-abbrev putStrike : ℕ
+abbrev pub putStrike : ℕ
 putStrike = 0x4079_0000_0000_0000
 
-abbrev timeOne : ℕ
+abbrev pub timeOne : ℕ
 timeOne = 0x3FF0_0000_0000_0000
 
-comparable-call : ComparableFigures (bits callPrice) (bits callForward) (bits callStrike)
+pub comparable-call : ComparableFigures (bits callPrice) (bits callForward) (bits callStrike)
 unfolding ofBits le
 comparable-call = comparable _ _ _ tt tt (comparable-pair _ _ tt tt tt tt (lit≤ tt) (lit≤ tt))
 
-comparable-put : ComparableFigures (bits putPrice) (bits putForward) (bits putStrike)
+pub comparable-put : ComparableFigures (bits putPrice) (bits putForward) (bits putStrike)
 unfolding ofBits le
 comparable-put = comparable _ _ _ tt tt (comparable-pair _ _ tt tt tt tt (lit≤ tt) (lit≤ tt))
 

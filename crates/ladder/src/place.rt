@@ -30,15 +30,16 @@ pub struct Place {
     pub number: u32,
 }
 
-fn refused(number: u32, roots: StrikeRoots) -> Solved
-    ensures { λ r. ⌜ (viewReply (r .reply) ≡ refusal number 0) × (r .roots .taken ≡ roots .taken) ⌝ }
+// A refusal before the strike's root: the count stays.
+fn refused(number: u32, before: StrikeRoots) -> Solved
+    ensures { λ r. ⌜ (viewReply (r .reply) ≡ refusal number 0) × (r .roots .taken ≡ before .taken) ⌝ }
 {
     Solved {
         reply: Reply::Refusal {
             number: number,
             count: 0,
         },
-        roots: roots,
+        roots: before,
     }
 }
 

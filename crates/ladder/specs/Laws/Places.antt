@@ -5,22 +5,23 @@ use mathlib.Core.List.{List, [], _∷_}
 use Prim.Native.Nat.{ℕ, zero, suc, _≤_, _<_, zero-le}
 use native.Mathlib.Nat.{not-suc-le-zero, le-of-suc-le-suc}
 use native.Mathlib.Omega.{arith}
-use borrow.Author.Tests.{ne-eqb}
-use lib.Dec.{T, eqb, ltb, eqb→eq, nltb→le, lit≤}
+use borrow.Author.Tests.{ne-eqb, lt-ltb, le-ltb}
+use lib.Dec.{T, eqb, ltb, eqb→eq, eqb-refl, nltb→le, lit≤}
 use lib.ListN.{length, take, getD}
 use lib.Ieee.{Float, lt, le, eq, ofBits}
+use lib.Ieee.Bits.{is-true}
 use lib.Ieee.Scale.{finite}
 use Rattle.arithmetic.specs.Operations.{_⊗_, plusZero}
 use Rattle.arithmetic.specs.Basic.{isFinite}
 use Rattle.arithmetic.specs.Sqrt.{sqrt}
-use Rattle.arithmetic.specs.Laws.Choices.{in-both, never}
+use Rattle.arithmetic.specs.Laws.Choices.{in-both, refuted, never}
 use Rattle.arithmetic.specs.Laws.Compare.{lt-is-not-le}
 use Rattle.bs_option_price.specs.BsOptionPrice.{negativeAbsLogMoneyness}
 use Rattle.explicit_black.specs.Counted.{Option, some, none, orElse}
 use Rattle.explicit_black.specs.Quote.{Outcome, Reply, refusal, replyOf, replyOver, firstRefusal, intrinsicValue, priceBound, boundTests}
 use Rattle.explicit_black.specs.Quote.{normalisedTimeValue, fromTimeValue, fromPrice, fromQuote, impliedBlackVolatilityInput}
 use Rattle.explicit_black.specs.Laws.Quote.{Domain, passed}
-use Rattle.ladder.specs.Ladder.{takesRoot, rootsAfter, replies, trues, rootPlaces, lengthRefusal}
+use Rattle.ladder.specs.Ladder.{takesRoot, rootsAfter, replies, trues, rootPlaces, areEqual, lengthRefusal}
 use Rattle.ladder.specs.Laws.Slices.{zip-length, zip-at}
 
 module _ (side : ℕ) (p f k t : Float) where
@@ -125,7 +126,9 @@ trues-few [] (suc i) = zero-le
 trues-few (false ∷ bs) (suc i) = omega (arith, trues-few bs i)
 trues-few (true ∷ bs) (suc i) = omega (arith, trues-few bs i)
 
--- ---- a ladder that is not refused has six equal lengths, at most 500
+-- ---- the number by the lengths
+
+-- six equal lengths, at most 500
 pub record Lengths (strikes prices totals volatilities counts refusals : ℕ) : Type 0 where
   pub prices-equal : prices ≡ strikes
   pub totals-equal : totals ≡ strikes
@@ -134,30 +137,52 @@ pub record Lengths (strikes prices totals volatilities counts refusals : ℕ) : 
   pub refusals-equal : refusals ≡ strikes
   pub few : strikes ≤ 500
 
-pub accepted : (k p t v c r : ℕ) → lengthRefusal k p t v c r ≡ 0 → Lengths k p t v c r
-unfolding lengthRefusal
-accepted k p t v c r e =
-    let all = eqb p k && eqb t k && eqb v k && eqb c k && eqb r k in
-    let q = go all (ltb 500 k) e in
-    let a = and-both (eqb p k && eqb t k && eqb v k && eqb c k) (eqb r k) (q .0) in
-    let b = and-both (eqb p k && eqb t k && eqb v k) (eqb c k) (a .0) in
-    let d = and-both (eqb p k && eqb t k) (eqb v k) (b .0) in
-    let g = and-both (eqb p k) (eqb t k) (d .0) in
-    record {
-      prices-equal = eqb→eq p k (g .0);
-      totals-equal = eqb→eq t k (g .1);
-      volatilities-equal = eqb→eq v k (d .1);
-      counts-equal = eqb→eq c k (b .1);
-      refusals-equal = eqb→eq r k (a .1);
-      few = nltb→le 500 k (q .1);
-    }
-  where
-    go : (u v : Bool) → _≡_ {A = ℕ} (cond (not u) 12 (cond v 13 0)) 0 → T u × T (not v)
-    go false v e = absurd (omega arith)
-    go true true e = absurd (omega arith)
-    go true false e = (tt, tt)
+module _ (k p t v c r : ℕ) where
+  -- what follows from five equations
+  abbrev Equal : Type 0 → Type 0
+  Equal X = p ≡ k → t ≡ k → v ≡ k → c ≡ k → r ≡ k → X
 
-    and-both : (u v : Bool) → T (u && v) → T u × T v
-    and-both true true e = (tt, tt)
-    and-both true false e = absurd e
-    and-both false v e = absurd e
+  by-equal : {X : Type 0} → T (areEqual k p t v c r) → Equal X → X
+  by-equal u f =
+      let a = and-both (eqb p k && eqb t k && eqb v k && eqb c k) (eqb r k) u in
+      let b = and-both (eqb p k && eqb t k && eqb v k) (eqb c k) (a .0) in
+      let d = and-both (eqb p k && eqb t k) (eqb v k) (b .0) in
+      let g = and-both (eqb p k) (eqb t k) (d .0) in
+      f (eqb→eq p k (g .0)) (eqb→eq t k (g .1)) (eqb→eq v k (d .1)) (eqb→eq c k (b .1)) (eqb→eq r k (a .1))
+    where
+      and-both : (u v : Bool) → T (u && v) → T u × T v
+      and-both true true e = (tt, tt)
+      and-both true false e = absurd e
+      and-both false v e = absurd e
+
+  pub unequal-lengths : Equal ⊥ → 12 ≡ lengthRefusal k p t v c r
+  unfolding lengthRefusal
+  unequal-lengths h = rw (refuted (areEqual k p t v c r) (λ u. by-equal u h))
+
+  equal-lengths : Equal (lengthRefusal k p t v c r ≡ cond (ltb 500 k) 13 0)
+  unfolding lengthRefusal
+  equal-lengths a b d e f = rw (a, b, d, e, f, is-true (eqb k k) (eqb-refl k))
+
+  pub over-500 : Equal (500 < k → 13 ≡ lengthRefusal k p t v c r)
+  over-500 a b d e f h = rw (equal-lengths a b d e f, lt-ltb 500 k h)
+
+  pub up-to-500 : Equal (k ≤ 500 → 0 ≡ lengthRefusal k p t v c r)
+  up-to-500 a b d e f h = rw (equal-lengths a b d e f, le-ltb 500 k h)
+
+  pub accepted : lengthRefusal k p t v c r ≡ 0 → Lengths k p t v c r
+  unfolding lengthRefusal
+  accepted e =
+      let q = go (areEqual k p t v c r) (ltb 500 k) e in
+      by-equal (q .0) (λ a b d e f. record {
+        prices-equal = a;
+        totals-equal = b;
+        volatilities-equal = d;
+        counts-equal = e;
+        refusals-equal = f;
+        few = nltb→le 500 k (q .1);
+      })
+    where
+      go : (u v : Bool) → _≡_ {A = ℕ} (cond (not u) 12 (cond v 13 0)) 0 → T u × T (not v)
+      go false v e = absurd (omega arith)
+      go true true e = absurd (omega arith)
+      go true false e = (tt, tt)

@@ -83,6 +83,19 @@ impl Lent {
     pub fn longest(&self) -> usize {
         [self.totals.len(), self.volatilities.len(), self.counts.len(), self.refusals.len()].into_iter().max().unwrap()
     }
+
+    /// The line of a place.
+    pub fn line(&self, i: usize) -> String {
+        let figure = |x: Option<&f64>| match x {
+            None => "-".to_string(),
+            Some(x) if x.is_nan() => "nan".to_string(),
+            Some(x) => format!("{:016x}", x.to_bits()),
+        };
+        let (total, volatility) = (figure(self.totals.get(i)), figure(self.volatilities.get(i)));
+        let count = self.counts.get(i).map_or("-".to_string(), u64::to_string);
+        let refusal = self.refusals.get(i).map_or("-".to_string(), u32::to_string);
+        format!("{total} {volatility} {count} {refusal}")
+    }
 }
 
 /// The lines of `ladders` for one ladder.
@@ -92,15 +105,6 @@ pub fn text(l: &Ladder) -> String {
         Reply::Solved { roots } => format!("L {roots}\n"),
         Reply::Refusal { number, count } => format!("R {number} {count}\n"),
     };
-    let figure = |x: Option<&f64>| match x {
-        None => "-".to_string(),
-        Some(x) if x.is_nan() => "nan".to_string(),
-        Some(x) => format!("{:016x}", x.to_bits()),
-    };
-    for i in 0..lent.longest() {
-        let count = lent.counts.get(i).map_or("-".to_string(), u64::to_string);
-        let refusal = lent.refusals.get(i).map_or("-".to_string(), u32::to_string);
-        writeln!(out, "{} {} {count} {refusal}", figure(lent.totals.get(i)), figure(lent.volatilities.get(i))).unwrap();
-    }
+    (0..lent.longest()).for_each(|i| writeln!(out, "{}", lent.line(i)).unwrap());
     out
 }

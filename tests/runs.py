@@ -81,16 +81,20 @@ class Runs:
         """The kept text where the input comes in pieces of these sizes, with a pause after each of the first so many."""
         (data, right), runs = self.kept(), []
         for size in sizes:
-            program = subprocess.Popen([str(self.program)], stdin=subprocess.PIPE, stdout=subprocess.PIPE)
-            try:
-                for i in range(0, len(data), size):
-                    program.stdin.write(data[i : i + size])
-                    program.stdin.flush()
-                    if i < size * pauses:
-                        time.sleep(PAUSE)
-            except BrokenPipeError:  # it ended before it read all: its text differs
-                pass
-            runs.append((program.communicate()[0], right))
+            # To a file, since a pipe that is not read before all is written may fill.
+            with tempfile.TemporaryFile() as file:
+                program = subprocess.Popen([str(self.program)], stdin=subprocess.PIPE, stdout=file)
+                try:
+                    for i in range(0, len(data), size):
+                        program.stdin.write(data[i : i + size])
+                        program.stdin.flush()
+                        if i < size * pauses:
+                            time.sleep(PAUSE)
+                except BrokenPipeError:  # it ended before it read all: its text differs
+                    pass
+                program.communicate()
+                file.seek(0)
+                runs.append((file.read(), right))
         return runs
 
     def text_in_file(self, data, most):

@@ -1,13 +1,16 @@
-//! Writes inputs to standard output: records for `vectors` or `prices`, or a sheet.
+//! Writes inputs to standard output: records for `vectors` or `prices`, a sheet, or ladders.
 
 #[allow(dead_code)]
 mod inputs;
+#[allow(dead_code)]
+mod ladder_inputs;
 #[allow(dead_code)]
 mod price_inputs;
 #[allow(dead_code)]
 mod standin;
 
 use inputs::{Inputs, KINDS, Quote, Quotes, kept};
+use ladder_inputs::{LADDER_KINDS, Ladder, Ladders, kept_ladders};
 use price_inputs::{Keyed, PRICE_KINDS, Prices, kept_prices};
 use std::io::{self, BufWriter, Write};
 use std::process::exit;
@@ -20,9 +23,12 @@ fn usage() -> ! {
        oracle/generate kept SEED                     the sheet that the repository keeps: 1,000 quotes, the requirements' first
        oracle/generate prices KIND COUNT SEED        records of `prices`; KIND: {} or mixed
        oracle/generate kept-prices SEED              the records that the repository keeps: 1,500, and a last one without its end
+       oracle/generate ladders KIND COUNT SEED       ladders until they have COUNT places; KIND: {} or mixed
+       oracle/generate kept-ladders SEED             the ladders that the repository keeps, and a last one without its end
 Exit status: 0 written; 1 it could not be written or built; 2 bad usage; 4 rustc is not there.",
         KINDS.join(", "),
-        PRICE_KINDS.join(", ")
+        PRICE_KINDS.join(", "),
+        LADDER_KINDS.join(", ")
     );
     exit(2)
 }
@@ -45,6 +51,43 @@ fn put_prices(records: impl Iterator<Item = Keyed>, out: &mut impl Write) -> io:
         put_figures(k.side, [k.volatility, k.forward, k.strike, k.time], out)?;
     }
     Ok(())
+}
+
+/// A ladder of `ladders`.
+fn put_ladder(ladder: &Ladder, out: &mut impl Write) -> io::Result<()> {
+    out.write_all(&ladder.side.to_be_bytes())?;
+    [ladder.forward, ladder.time].iter().try_for_each(|figure| out.write_all(&figure.to_bits().to_be_bytes()))?;
+    ladder.lengths().iter().try_for_each(|&length| out.write_all(&(length as u32).to_be_bytes()))?;
+    let figures = ladder.strikes.iter().chain(&ladder.prices);
+    figures.into_iter().try_for_each(|figure| out.write_all(&figure.to_bits().to_be_bytes()))
+}
+
+/// Ladders of one kind, or of all in turn, until they have so many places: each as many as the longest of its slices.
+fn put_ladders(kind: &str, count: usize, seed: u64, out: &mut impl Write) -> io::Result<()> {
+    let kinds = (0..LADDER_KINDS.len()).filter(|&i| kind == "mixed" || LADDER_KINDS[i] == kind);
+    let mut ladders: Vec<Ladders> = kinds.map(|i| Ladders::new(i, seed)).collect();
+    if ladders.is_empty() {
+        usage();
+    }
+    let (mut places, n) = (0, ladders.len());
+    for i in 0.. {
+        if places >= count {
+            break;
+        }
+        let ladder = ladders[i % n].next();
+        places += ladder.longest();
+        put_ladder(&ladder, out)?;
+    }
+    Ok(())
+}
+
+/// The kept ladders, then the first of them without its last byte.
+fn put_kept_ladders(seed: u64, out: &mut impl Write) -> io::Result<()> {
+    let kept = kept_ladders(seed);
+    kept.iter().try_for_each(|ladder| put_ladder(ladder, out))?;
+    let mut last = Vec::new();
+    put_ladder(&kept[0], &mut last)?;
+    out.write_all(&last[..last.len() - 1])
 }
 
 /// Quotes of one kind, or of all in turn.
@@ -100,6 +143,8 @@ fn main() -> io::Result<()> {
             put_prices(kept_prices(number(seed)).into_iter(), &mut out)?;
             out.write_all(&[0; 35])?
         }
+        ["ladders", kind, count, seed] => put_ladders(kind, number(count) as usize, number(seed), &mut out)?,
+        ["kept-ladders", seed] => put_kept_ladders(number(seed), &mut out)?,
         ["vectors", name, count, seed] => {
             let mut inputs = Inputs::new(function(name), number(seed));
             put_records(function(name), (0..number(count)).map(|_| inputs.next()), &mut out)?

@@ -445,7 +445,12 @@ pub fn forward_and_strike(rng: &mut Rng) -> [f64; 2] {
         2 => rng.magnitude(-1022, 1023),
         _ => rng.magnitude(-10, 20),
     };
-    let k = match rng.below(10) {
+    [f, strike_beside(rng, f)]
+}
+
+/// A strike at a branch of its log-moneyness with the forward f, next to one, or anywhere.
+pub fn strike_beside(rng: &mut Rng, f: f64) -> f64 {
+    match rng.below(10) {
         0 => f,
         1 => rng.near(f),
         2 => rng.near(f * 0.5),
@@ -459,8 +464,7 @@ pub fn forward_and_strike(rng: &mut Rng) -> [f64; 2] {
         7 => times_power(f, rng.whole(-1100, 1100)) * rng.uniform(0.5, 1.0),
         8 => f64::from_bits(1 + rng.below(32)),
         _ => rng.magnitude(-1074, 1023),
-    };
-    [f, k]
+    }
 }
 
 fn moneyness_pair(rng: &mut Rng) -> [f64; 2] {
@@ -707,7 +711,8 @@ fn normal(z: f64) -> f64 {
     if z > 0.0 { 1.0 - tail } else { tail }
 }
 
-fn black(side: u32, forward: f64, strike: f64, total: f64) -> f64 {
+/// A plausible price.
+pub fn black(side: u32, forward: f64, strike: f64, total: f64) -> f64 {
     let d = ln(forward / strike) / total;
     let (d1, d2) = (d + 0.5 * total, d - 0.5 * total);
     let price = if side == 0 {
@@ -719,7 +724,7 @@ fn black(side: u32, forward: f64, strike: f64, total: f64) -> f64 {
 }
 
 /// As a trader keys it: a forward, a strike of a listed step, days to expiry, a price in ticks or in full.
-fn desk(rng: &mut Rng) -> Quote {
+pub fn desk(rng: &mut Rng) -> Quote {
     let forward = rng.one_of(&[1.1, 20.0, 100.0, 2500.0, 40000.0]) * rng.uniform(0.5, 2.0);
     let forward = if rng.below(3) == 0 { forward } else { (forward * 100.0).round() / 100.0 };
     let volatility = rng.one_of(&[0.05, 0.1, 0.2, 0.4, 0.8, 1.5]) * rng.uniform(0.7, 1.4);
@@ -736,7 +741,29 @@ fn desk(rng: &mut Rng) -> Quote {
     Quote { side, price, forward, strike, time }
 }
 
-/// A quote whose price is next to a branch: intrinsic, bound, no time value, 1e-5 and b_max of the normalised price.
+/// A price next to a branch of a quote, whose own is q's: intrinsic, bound, no time value, 1e-5 and b_max of the normalised price.
+pub fn edge_price(rng: &mut Rng, q: Quote) -> f64 {
+    let (bound, intrinsic) =
+        if q.side == 0 { (q.forward, q.forward - q.strike) } else { (q.strike, q.strike - q.forward) };
+    let floor = if intrinsic > 0.0 { intrinsic } else { 0.0 };
+    let roots = q.forward.sqrt() * q.strike.sqrt();
+    let small = if q.forward < q.strike { q.forward } else { q.strike };
+    match rng.below(14) {
+        0 => rng.near(bound),
+        1 => rng.near(floor),
+        2 => floor,
+        3 => rng.near(floor + f64::MIN_POSITIVE * roots),
+        4 => rng.near(floor + 1.0e-5 * small),
+        5 => floor + small * rng.magnitude(-1074, -1),
+        6 => floor + small * (1.0 - rng.magnitude(-56, -1)),
+        7 => rng.near(floor + small),
+        8 => rng.one_of(&edges()),
+        9 => -q.price,
+        _ => floor + small * rng.unit(),
+    }
+}
+
+/// A quote next to a branch.
 fn edge(rng: &mut Rng) -> Quote {
     let mut q = desk(rng);
     if rng.below(3) == 0 {
@@ -751,24 +778,7 @@ fn edge(rng: &mut Rng) -> Quote {
         }
         _ => (),
     }
-    let (bound, intrinsic) =
-        if q.side == 0 { (q.forward, q.forward - q.strike) } else { (q.strike, q.strike - q.forward) };
-    let floor = if intrinsic > 0.0 { intrinsic } else { 0.0 };
-    let roots = q.forward.sqrt() * q.strike.sqrt();
-    let small = if q.forward < q.strike { q.forward } else { q.strike };
-    q.price = match rng.below(14) {
-        0 => rng.near(bound),
-        1 => rng.near(floor),
-        2 => floor,
-        3 => rng.near(floor + f64::MIN_POSITIVE * roots),
-        4 => rng.near(floor + 1.0e-5 * small),
-        5 => floor + small * rng.magnitude(-1074, -1),
-        6 => floor + small * (1.0 - rng.magnitude(-56, -1)),
-        7 => rng.near(floor + small),
-        8 => rng.one_of(&edges()),
-        9 => -q.price,
-        _ => floor + small * rng.unit(),
-    };
+    q.price = edge_price(rng, q);
     q.time = match rng.below(12) {
         0 => 0.0,
         1 => -0.0,
@@ -989,9 +999,14 @@ fn refused() -> Vec<Quote> {
     list
 }
 
+/// Examples, the longest search, minus zeros and refusals.
+pub fn known() -> Vec<Quote> {
+    [examples(), doubled().to_vec(), vec![longest()], minus_zeros(), refused()].concat()
+}
+
 /// The quotes of the sheet that the repository keeps: 1,000.
 pub fn kept(seed: u64) -> Vec<Quote> {
-    let mut list = [examples(), doubled().to_vec(), vec![longest()], minus_zeros(), refused()].concat();
+    let mut list = known();
     let mut rng = Rng::new(seed);
     for on_survival_path in [true, false] {
         list.extend((0..125).map(|_| searched(&mut rng, on_survival_path)));

@@ -6,6 +6,8 @@ pub mod lets_be_rational;
 
 pub mod functions;
 pub mod inputs;
+pub mod ladder;
+pub mod ladder_inputs;
 pub mod price;
 pub mod price_inputs;
 pub mod quote;

@@ -1,5 +1,6 @@
-//! `oracle vectors`, `oracle sheet` and `oracle prices`: the interfaces of the proved programs, answered by the Rust source.
+//! `oracle vectors`, `oracle sheet`, `oracle prices` and `oracle ladders`: the interfaces of the proved programs, answered by the Rust source.
 
+use oracle::ladder_inputs::Ladder;
 use std::io::{self, BufRead, BufReader, BufWriter, Read, Write};
 use std::process::exit;
 
@@ -37,6 +38,41 @@ fn prices() -> io::Result<()> {
     output.flush()
 }
 
+/// The next ladder, or none where the input ends inside it or a length is over 512.
+fn next_ladder(input: &mut impl Read) -> Option<Ladder> {
+    let mut head = [0u8; 44];
+    input.read_exact(&mut head).ok()?;
+    let word = |at: usize| u32::from_be_bytes(head[at..at + 4].try_into().unwrap());
+    let double = |bytes: &[u8]| f64::from_bits(u64::from_be_bytes(bytes.try_into().unwrap()));
+    let lengths: [usize; 6] = std::array::from_fn(|i| word(20 + 4 * i) as usize);
+    if lengths.iter().any(|&length| length > 512) {
+        return None;
+    }
+    let mut doubles = |count: usize| {
+        let mut bytes = vec![0u8; 8 * count];
+        input.read_exact(&mut bytes).ok()?;
+        Some(bytes.chunks(8).map(double).collect::<Vec<f64>>())
+    };
+    let [strikes, prices, lent @ ..] = lengths;
+    Some(Ladder {
+        side: word(0),
+        forward: double(&head[4..12]),
+        time: double(&head[12..20]),
+        strikes: doubles(strikes)?,
+        prices: doubles(prices)?,
+        lent,
+    })
+}
+
+fn ladders() -> io::Result<()> {
+    let mut input = BufReader::with_capacity(1 << 20, io::stdin().lock());
+    let mut output = BufWriter::with_capacity(1 << 20, io::stdout().lock());
+    while let Some(ladder) = next_ladder(&mut input) {
+        output.write_all(oracle::ladder::text(&ladder).as_bytes())?;
+    }
+    output.flush()
+}
+
 fn sheet() -> io::Result<()> {
     let mut bytes = Vec::new();
     // One byte more than the longest sheet is enough to refuse.
@@ -49,8 +85,9 @@ fn main() -> io::Result<()> {
         Some("vectors") => vectors(),
         Some("sheet") => sheet(),
         Some("prices") => prices(),
+        Some("ladders") => ladders(),
         _ => {
-            eprintln!("usage: oracle vectors | sheet | prices   (standard input to standard output)");
+            eprintln!("usage: oracle vectors | sheet | prices | ladders   (standard input to standard output)");
             exit(2)
         }
     }

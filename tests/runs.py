@@ -1,4 +1,5 @@
-"""What tests/sheet and tests/prices share: runs of a program on inputs whose text is known, and on the oracle's; groups of them; the usage."""
+"""What tests/sheet, tests/prices and tests/ladders share: runs of a program on inputs whose text is known, and on the oracle's; groups of them;
+the usage."""
 import os
 import pathlib
 import resource
@@ -80,16 +81,20 @@ class Runs:
         """The kept text where the input comes in pieces of these sizes, with a pause after each of the first so many."""
         (data, right), runs = self.kept(), []
         for size in sizes:
-            program = subprocess.Popen([str(self.program)], stdin=subprocess.PIPE, stdout=subprocess.PIPE)
-            try:
-                for i in range(0, len(data), size):
-                    program.stdin.write(data[i : i + size])
-                    program.stdin.flush()
-                    if i < size * pauses:
-                        time.sleep(PAUSE)
-            except BrokenPipeError:  # it ended before it read all: its text differs
-                pass
-            runs.append((program.communicate()[0], right))
+            # To a file, since a pipe that is not read before all is written may fill.
+            with tempfile.TemporaryFile() as file:
+                program = subprocess.Popen([str(self.program)], stdin=subprocess.PIPE, stdout=file)
+                try:
+                    for i in range(0, len(data), size):
+                        program.stdin.write(data[i : i + size])
+                        program.stdin.flush()
+                        if i < size * pauses:
+                            time.sleep(PAUSE)
+                except BrokenPipeError:  # it ended before it read all: its text differs
+                    pass
+                program.communicate()
+                file.seek(0)
+                runs.append((file.read(), right))
         return runs
 
     def text_in_file(self, data, most):
@@ -116,6 +121,19 @@ class Runs:
             runs.append((b"%d" % self.run(input=data, stdout=full).returncode, b"0"))
         return runs
 
+    def unwritten(self):
+        """Of input without end, all zeros, the program ends where it cannot write: to a full device, or to a pipe that nobody reads."""
+        with open("/dev/zero", "rb") as endless:
+            with open("/dev/full", "wb") as full:
+                runs = [(b"%d" % self.run(stdin=endless, stdout=full).returncode, b"0")]
+            # The signal ends it; where that is ignored, as by this process, the write fails.
+            for restored, status in [(True, -signal.SIGPIPE), (False, 0)]:
+                reader, writer = os.pipe()
+                os.close(reader)
+                runs.append((b"%d" % self.run(stdin=endless, stdout=writer, restore_signals=restored).returncode, b"%d" % status))
+                os.close(writer)
+        return runs
+
     def drawn(self, size, seed):
         """The text of a drawn input, and the oracle's."""
         generated = [ROOT / "oracle/generate", self.name, "mixed", str(size), str(seed)]
@@ -124,7 +142,7 @@ class Runs:
         return self.text(data), right
 
     def end(self, name, size):
-        """The last group, whose inputs of so many records are drawn, where the outside Rust is there; then the test's exit status."""
+        """The last group, whose inputs of so many records or places are drawn, where the outside Rust is there; then the test's exit status."""
         built = subprocess.run([ROOT / "oracle/build"], stdout=subprocess.DEVNULL).returncode
         if built == 0:
             self.group(name, [self.drawn(size, seed) for seed in range(1, self.inputs + 1)])

@@ -1,11 +1,13 @@
 //! Runs our code and the oracle on the same inputs in one process and counts the differences.
 
+mod ladders;
 mod ours;
 mod prices;
 
 use oracle::evaluations::counted;
 use oracle::functions::NAMES;
 use oracle::inputs::{self, Inputs, KINDS, Quote, Quotes, Rng};
+use oracle::ladder_inputs::LADDER_KINDS;
 use oracle::price_inputs::PRICE_KINDS;
 use oracle::quote::Outcome;
 use oracle::{DefaultSpecialFn, explicit_black};
@@ -119,14 +121,18 @@ impl Tally {
         Tally { what, start: Instant::now(), run: 0, differ: 0 }
     }
     fn compare(&mut self, input: &[u64], ours: Reply, theirs: Reply) {
+        self.note(ours == theirs, || {
+            let figures: Vec<String> = input.iter().map(|&b| format!("{b:016x} ({:e})", f64::from_bits(b))).collect();
+            [figures.join(" "), ours.show(), theirs.show()]
+        });
+    }
+    /// `texts`: the input, what is ours, and what is the oracle's.
+    fn note(&mut self, same: bool, texts: impl FnOnce() -> [String; 3]) {
         self.run += 1;
-        if ours != theirs {
-            self.differ += 1;
-            if self.differ <= 10 {
-                let figures: Vec<String> =
-                    input.iter().map(|&b| format!("{b:016x} ({:e})", f64::from_bits(b))).collect();
-                println!("  differs: {}\n    ours   {}\n    oracle {}", figures.join(" "), ours.show(), theirs.show());
-            }
+        self.differ += !same as u64;
+        if !same && self.differ <= 10 {
+            let [input, ours, theirs] = texts();
+            println!("  differs: {input}\n    ours   {ours}\n    oracle {theirs}");
         }
     }
     fn end(self) -> u64 {
@@ -324,10 +330,13 @@ fn usage() -> ! {
        harness prices KIND COUNT SEED     COUNT records that get a price; KIND: {CORNERS}, {} or all
        harness law COUNT SEED             prices of COUNT pairs within the hypotheses of the law of 4^n against each other
        harness counterexamples            pairs outside its hypotheses that break it
+       harness ladders KIND COUNT SEED    ladders until COUNT places were compared; KIND: {CORNERS}, {} or all
+       harness ladder-pairs COUNT SEED    scaled and exchanged ladders against each other, place by place
        harness standins COUNT SEED        the requirements' exp, ln, ln_1p beside the platform's; nothing is asked of them
 Exit status: 0 no difference, and every counterexample breaks the law; 1 some, or not; 2 bad usage.",
         KINDS.join(", "),
-        PRICE_KINDS.join(", ")
+        PRICE_KINDS.join(", "),
+        LADDER_KINDS.join(", ")
     );
     exit(2)
 }
@@ -348,6 +357,10 @@ fn main() {
         }
         ["law", _, _] => prices::law(number(&args[1]), number(&args[2])),
         ["counterexamples"] => prices::counterexamples(),
+        ["ladders", kind, _, _] if ["all", CORNERS].contains(&kind) || LADDER_KINDS.contains(&kind) => {
+            ladders::ladders(kind, number(&args[2]), number(&args[3]))
+        }
+        ["ladder-pairs", _, _] => ladders::pairs(number(&args[1]), number(&args[2])),
         ["standins", _, _] => {
             standins(number(&args[1]), number(&args[2]));
             0

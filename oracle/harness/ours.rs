@@ -86,3 +86,29 @@ mod layer4 {
 pub mod quotes {
     include!("quotes.rs");
 }
+
+pub mod ladders {
+    use oracle::ladder::{Lent, Reply};
+    use oracle::ladder_inputs::Ladder;
+    use ours::ladder::ladder::{LadderReply, implied_black_volatility_ladder};
+
+    pub fn solved(l: &Ladder, lent: &mut Lent) -> Reply {
+        let Lent { totals, volatilities, counts, refusals } = lent;
+        let (strikes, prices) = (&l.strikes, &l.prices);
+        let reply = implied_black_volatility_ladder(
+            l.side,
+            l.forward,
+            l.time,
+            strikes,
+            prices,
+            totals,
+            volatilities,
+            counts,
+            refusals,
+        );
+        match reply {
+            LadderReply::Solved { roots } => Reply::Solved { roots },
+            LadderReply::Refusal { number, count } => Reply::Refusal { number, count },
+        }
+    }
+}

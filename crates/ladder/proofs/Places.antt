@@ -2,7 +2,7 @@
 use mathlib.Core.Path.{_≡_, refl, sym, ap, _∙_, subst}
 use mathlib.Core.Bool.{false}
 use mathlib.Core.List.{List, map}
-use Prim.Native.Nat.{ℕ, suc, _+_, _^_, _≤_, _<_, zero-le}
+use Prim.Native.Nat.{ℕ, suc, _+_, _≤_, _<_, zero-le}
 use native.Mathlib.Numerals.{add-one}
 use native.Mathlib.Omega.{arith}
 use lib.Ieee.{Float}
@@ -60,8 +60,8 @@ module _ {side : ℕ} {f t : Float} {ks ps t₀ v₀ : List Float} {c₀ r₀ : 
   abbrev e : length ps ≡ length ks
   e = l .prices-equal
 
-  -- one more root can be counted
-  pub room : i < length ks → roots + 1 < 2 ^ 64
+  -- fewer roots were taken than a ladder has places
+  pub room : i < length ks → roots < 500
   room h = let few = trues-few (rootPlaces side f t ks ps) i in let c = s .counted in let m = l .few in omega arith
 
   -- the four slices keep their lengths

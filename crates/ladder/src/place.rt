@@ -10,7 +10,7 @@ use explicit_black::quote::price_bound;
 use explicit_black::quote::reply_from_roots;
 use explicit_black::quote::volatility;
 ghost use mathlib.Core.Path.{_≡_};
-ghost use Prim.Native.Nat.{_+_, _^_, _<_};
+ghost use Prim.Native.Nat.{_<_};
 ghost use Rattle.arithmetic.specs.Sqrt.{sqrt};
 ghost use Rattle.explicit_black.specs.Quote.{refusal, impliedBlackVolatilityInput};
 ghost use Rattle.explicit_black.specs.Replies.{viewReply};
@@ -54,7 +54,7 @@ pub(crate) fn solve_place(
     root_time: f64,
     roots: StrikeRoots,
 ) -> Solved
-    requires { ⌜ («root_forward» ≡ sqrt forward) × («root_time» ≡ sqrt time) × (roots .taken + 1 < 2 ^ 64) ⌝ }
+    requires { ⌜ («root_forward» ≡ sqrt forward) × («root_time» ≡ sqrt time) × (roots .taken < 500) ⌝ }
     ensures { λ r. ⌜ (viewReply (r .reply) ≡ impliedBlackVolatilityInput side price forward strike time)
         × (r .roots .taken ≡ rootsAfter (takesRoot side price forward strike time) (roots .taken)) ⌝ }
 {

@@ -1,7 +1,7 @@
 // The root of a place's strike, and the count of such roots.
 use arithmetic::sqrt::sqrt;
 ghost use mathlib.Core.Path.{_≡_};
-ghost use Prim.Native.Nat.{_+_, _^_, _<_};
+ghost use Prim.Native.Nat.{_+_, _<_};
 ghost use Rattle.arithmetic.specs.Sqrt.{sqrt};
 
 // How many strike roots were taken. Its field is private: `strike_root` alone makes one that has counted.
@@ -30,7 +30,7 @@ pub struct StrikeRoot {
 }
 
 pub(crate) fn strike_root(strike: f64, roots: StrikeRoots) -> StrikeRoot
-    requires { ⌜ roots .taken + 1 < 2 ^ 64 ⌝ }
+    requires { ⌜ roots .taken < 500 ⌝ }
     ensures { λ r. ⌜ (r .root ≡ sqrt strike) × (r .roots .taken ≡ roots .taken + 1) ⌝ }
 {
     StrikeRoot {

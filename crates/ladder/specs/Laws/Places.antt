@@ -18,7 +18,7 @@ use Rattle.arithmetic.specs.Laws.Choices.{in-both, refuted, never}
 use Rattle.arithmetic.specs.Laws.Compare.{lt-is-not-le}
 use Rattle.bs_option_price.specs.BsOptionPrice.{negativeAbsLogMoneyness}
 use Rattle.explicit_black.specs.Counted.{Option, some, none, orElse}
-use Rattle.explicit_black.specs.Quote.{Outcome, Reply, refusal, replyOf, replyOver, firstRefusal, intrinsicValue, priceBound, boundTests}
+use Rattle.explicit_black.specs.Quote.{Outcome, total, Reply, answer, refusal, volatilityOver, replyOf, replyOver, firstRefusal, intrinsicValue, priceBound, boundTests}
 use Rattle.explicit_black.specs.Quote.{normalisedTimeValue, fromTimeValue, fromPrice, fromQuote, impliedBlackVolatilityInput}
 use Rattle.explicit_black.specs.Laws.Quote.{Domain, passed}
 use Rattle.ladder.specs.Ladder.{takesRoot, rootsAfter, replies, trues, rootPlaces, areEqual, lengthRefusal}
@@ -62,6 +62,10 @@ module _ (side : ℕ) (p f k t : Float) where
     pub decided-reply : (o : Outcome) → some o ≡ boundTests p intrinsic bound t → replyOf t (sqrt t) o 0 ≡ impliedBlackVolatilityInput side p f k t
     unfolding impliedBlackVolatilityInput fromQuote fromPrice orElse
     decided-reply o h = rw (e, ← h)
+
+    pub decided-total : (v w rt : Float) → rt ≡ sqrt t → w ≡ volatilityOver t rt v → some (total v) ≡ boundTests p intrinsic bound t
+        → answer v w 0 ≡ impliedBlackVolatilityInput side p f k t
+    decided-total v w rt a b h = ap (λ (x : Float). answer v x 0) (b ∙ ap (λ (x : Float). volatilityOver t x v) a) ∙ decided-reply (total v) h
 
     pub decided-root : (o : Outcome) → some o ≡ boundTests p intrinsic bound t → takesRoot side p f k t ≡ false
     unfolding boundTests

@@ -1,4 +1,5 @@
 -- `ladder::implied_black_volatility_ladder` meets its contract: by the length tests. Assumes nothing.
+use native.Mathlib.Omega.{arith}
 use borrow.Author.Needs.{needs}
 use borrow.Author.Tests.{eq-eqb, ne-eqb}
 use Rattle.ladder.specs.Ladder.{ladder}
@@ -7,7 +8,7 @@ use Rattle.ladder.proofs.ladder.implied_black_volatility_ladder.Tie as 
 
 returns : tie.Need-returns
 unfolding ladder
-returns c = rw (← c .before .length-refusal .ensures, ne-eqb _ _ (c .if1 .taken))
+returns c = rw (← c .before .length-refusal .ensures, ne-eqb (c .before .length-refusal .result) 0 (λ e. omega arith))
 
 returns-2 : tie.Need-returns-2
 unfolding ladder
@@ -16,7 +17,7 @@ returns-2 c =
     let solved = lent-back .before .before .before .before in
     let lent = solved .before .before .before .before in
     let accepted = lent .before in
-    rw (← accepted .before .length-refusal .ensures, eq-eqb _ _ (accepted .if1 .left)) (solved .solve-places .ensures)
+    rw (← accepted .before .length-refusal .ensures, eq-eqb (accepted .before .length-refusal .result) 0 (omega arith)) (solved .solve-places .ensures)
 
 pub implied-black-volatility-ladder-spec : {M : Type 1} → statement M
 implied-black-volatility-ladder-spec =

@@ -5,7 +5,7 @@ use Rattle.explicit_black.specs.Counted.{Option}
 use Rattle.explicit_black.specs.Quote.{Outcome, Reply, firstRefusal, intrinsicValue, priceBound, boundTests, impliedBlackVolatilityInput}
 use Rattle.ladder.specs.Ladder.{takesRoot, rootsAfter}
 use Rattle.explicit_black.specs.Internal.Quote.{viewTested}
-use Rattle.ladder.specs.Laws.Places.{early-reply, early-root, decided-reply, decided-root, open-reply, open-root}
+use Rattle.ladder.specs.Laws.Places.{early-reply, early-root, decided-reply, decided-total, decided-root, open-reply, open-root}
 use borrow.Author.Needs.{needs}
 use Rattle.ladder.proofs.place.solve_place.Statement.{statement}
 use Rattle.ladder.proofs.place.solve_place.Tie as tie
@@ -51,7 +51,7 @@ returns-2 c =
     let b = at-total .before .before in
     let s = at-first b .before in
     let known = sym (ap viewTested (at-total .total .given .1)) ∙ tested b in (
-      rw (c .volatility .ensures, s .pre .1) (decided-reply _ _ _ _ _ (passes b) _ known),
+      decided-total _ _ _ _ _ (passes b) _ _ _ (s .pre .1) (c .volatility .ensures) known,
       ap (λ b. rootsAfter b (s .args .roots .taken)) (sym (decided-root _ _ _ _ _ (passes b) _ known)),
     )
 

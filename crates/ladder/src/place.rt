@@ -17,7 +17,7 @@ ghost use Rattle.explicit_black.specs.Replies.{viewReply};
 ghost use Rattle.ladder.specs.Ladder.{totalOf, volatilityOf, countOf, numberOf, takesRoot, rootsAfter};
 
 // The reply to a place's quote, and the strike roots taken up to that place.
-pub struct Solved {
+pub struct PlaceReply {
     pub reply: Reply,
     pub roots: StrikeRoots,
 }
@@ -31,10 +31,10 @@ pub struct Place {
 }
 
 // A refusal before the strike's root: the count stays.
-fn refused(number: u32, before: StrikeRoots) -> Solved
+fn refused(number: u32, before: StrikeRoots) -> PlaceReply
     ensures { λ r. ⌜ (viewReply (r .reply) ≡ refusal number 0) × (r .roots .taken ≡ before .taken) ⌝ }
 {
-    Solved {
+    PlaceReply {
         reply: Reply::Refusal {
             number: number,
             count: 0,
@@ -53,7 +53,7 @@ pub(crate) fn solve_place(
     root_forward: f64,
     root_time: f64,
     roots: StrikeRoots,
-) -> Solved
+) -> PlaceReply
     requires { ⌜ («root_forward» ≡ sqrt forward) × («root_time» ≡ sqrt time) × (roots .taken < 500) ⌝ }
     ensures { λ r. ⌜ (viewReply (r .reply) ≡ impliedBlackVolatilityInput side price forward strike time)
         × (r .roots .taken ≡ rootsAfter (takesRoot side price forward strike time) (roots .taken)) ⌝ }
@@ -64,7 +64,7 @@ pub(crate) fn solve_place(
     }
     let intrinsic = intrinsic_value(side, forward, strike);
     match bound_tests(price, intrinsic, price_bound(side, forward, strike), time) {
-        Tested::Total(total) => Solved {
+        Tested::Total(total) => PlaceReply {
             reply: Reply::Answer {
                 total: total,
                 volatility: volatility(total, time, root_time),
@@ -76,7 +76,7 @@ pub(crate) fn solve_place(
         Tested::Open => {
             let taken = strike_root(strike, roots);
             let roots = taken.roots;
-            Solved {
+            PlaceReply {
                 reply: reply_from_roots(
                     price,
                     intrinsic,
@@ -95,7 +95,7 @@ pub(crate) fn solve_place(
 
 impl Place {
     // Of a refusal the figures are zeros; an answer has the number 0.
-    pub fn of(reply: Reply) -> Place
+    pub(crate) fn of(reply: Reply) -> Place
         ensures { λ r. ⌜ (r .total ≡ totalOf (viewReply reply)) × (r .volatility ≡ volatilityOf (viewReply reply))
             × (r .count ≡ countOf (viewReply reply)) × (r .number ≡ numberOf (viewReply reply)) ⌝ }
     {

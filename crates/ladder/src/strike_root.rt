@@ -10,13 +10,13 @@ pub struct StrikeRoots {
 }
 
 impl StrikeRoots {
-    pub fn none() -> StrikeRoots
+    pub(crate) fn none() -> StrikeRoots
         ensures { λ r. ⌜ r .taken ≡ 0 ⌝ }
     {
         StrikeRoots { taken: 0 }
     }
 
-    pub fn taken(self) -> u64
+    pub(crate) fn taken(self) -> u64
         ensures { λ r. ⌜ r ≡ self .taken ⌝ }
     {
         self.taken

@@ -347,7 +347,7 @@ static void known_lengths(void)
             refused("one more", but(all, slice, counts[i] + 1), 12);
             refused("one less", but(all, slice, counts[i] - 1), 12);
             refused("none", but(all, slice, 0), 12);
-            refused("one more than none", but(equal(0), slice, counts[i]), 12);
+            refused("places in one alone", but(equal(0), slice, counts[i]), 12);
         }
         for (int other = 0; other < slice; other++) {
             refused("two others", but(but(equal(500), slice, 501), other, 501), 12);

@@ -1,11 +1,13 @@
 //! Our functions and quotes beside the Rust's in one process, and what they take of the machine.
 //! Columns: ns a call of ours, of the Rust with the stand-ins of docs/REQUIREMENTS.md, of the Rust with the platform's exp and ln, and two
-//! ratios.
+//! ratios. Of ladders: ns a place by a call for the ladder, by a call for each quote, by the Rust, and two ratios.
 //!
 //! usage: bench TARGET [PICTURE.svg]     TARGET: the folder with staticlib/libexports.a and bin/sheet
 //!        bench --run ours|rust|platform      desk quotes of one of them alone, for callgrind
+//!        bench --run ladder|quotes           desk ladders, by calls for ladders or by calls for quotes
 
 mod footprint;
+mod ladder;
 mod ours;
 mod plot;
 mod timing;
@@ -30,6 +32,8 @@ fn main() {
 
 fn report(target: &Path) {
     timing::table();
+    println!();
+    ladder::table();
     println!();
     footprint::table(target);
 }

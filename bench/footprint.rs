@@ -1,5 +1,6 @@
-//! What a quote, a price and a sheet take of the machine: instructions, stack, text and constants.
+//! What a quote, a price, a ladder and a sheet take of the machine: instructions, stack, text and constants.
 
+use crate::ladder::{self, Ladder, Lent, PLACES};
 use crate::{ours, timing};
 use oracle::inputs::{KINDS, Quote, Quotes, Rng};
 use oracle::price_inputs::{Keyed, PRICE_KINDS, Prices};
@@ -14,13 +15,14 @@ const NEAR_BOUND: usize = 200_000;
 const PAINT: u64 = 0xA5A5_A5A5_A5A5_A5A5;
 const WORDS: usize = 4096;
 
-/// Runs desk quotes of one of the three, for callgrind to count between entry and return.
+/// Runs desk quotes or desk ladders of one of the five, for callgrind to count between entry and return.
 pub fn run(which: &str) {
-    let list = timing::desk(QUOTES);
     match which {
-        "ours" => counted_ours(&list),
-        "rust" => counted_rust(&list),
-        _ => counted_platform(&list),
+        "ours" => counted_ours(&timing::desk(QUOTES)),
+        "rust" => counted_rust(&timing::desk(QUOTES)),
+        "platform" => counted_platform(&timing::desk(QUOTES)),
+        "ladder" => counted_ladder(&ladder::desk_ladders(), &mut Lent::new(PLACES)),
+        _ => counted_quotes(&ladder::desk_ladders(), &mut Lent::new(PLACES)),
     }
 }
 
@@ -42,8 +44,20 @@ extern "C" fn counted_platform(list: &Vec<Quote>) {
     list.iter().for_each(|&q| timing::plain(q));
 }
 
-/// Instructions a desk quote, by callgrind on this program; none where valgrind is not there.
-fn instructions(which: &str) -> Option<f64> {
+#[inline(never)]
+#[unsafe(no_mangle)]
+extern "C" fn counted_ladder(list: &Vec<Ladder>, lent: &mut Lent) {
+    list.iter().for_each(|l| ladder::ladder(l, lent));
+}
+
+#[inline(never)]
+#[unsafe(no_mangle)]
+extern "C" fn counted_quotes(list: &Vec<Ladder>, lent: &mut Lent) {
+    list.iter().for_each(|l| ladder::quotes(l, lent));
+}
+
+/// Instructions of a run, by callgrind on this program, over so many; none where valgrind is not there.
+fn instructions(which: &str, over: usize) -> Option<f64> {
     let program = std::env::current_exe().ok()?;
     let output = Command::new("valgrind")
         .args(["--tool=callgrind", "--callgrind-out-file=/dev/null"])
@@ -54,15 +68,26 @@ fn instructions(which: &str) -> Option<f64> {
         .ok()?;
     let text = String::from_utf8_lossy(&output.stderr).into_owned();
     let line = text.lines().find(|line| line.contains("Collected :"))?;
-    line.split(':').next_back()?.trim().parse::<f64>().ok().map(|n| n / QUOTES as f64)
+    line.split(':').next_back()?.trim().parse::<f64>().ok().map(|n| (n / over as f64).round())
 }
 
-/// Bytes of stack that one call writes below its caller's frame, its return address included. The function takes a side, four figures and
-/// up to three places to write to.
-fn painted(stack: &mut [u64], function: usize, side: u32, [a, b, c, d]: [f64; 4]) -> usize {
+/// What a call is given in registers, and what on the stack.
+struct Given<'a> {
+    words: [u64; 6],
+    figures: [f64; 4],
+    pushed: &'a [u64],
+}
+
+/// Bytes of stack that one call takes: what it is given there, its return address, and what it writes below.
+fn painted(stack: &mut [u64], function: usize, given: Given) -> usize {
     stack.fill(PAINT);
-    let top = unsafe { stack.as_mut_ptr().add(stack.len()) } as u64 & !15;
-    let (mut total, mut volatility, mut count) = (0.0f64, 0.0f64, 0u64);
+    let start = stack.as_mut_ptr() as usize;
+    // The pointer is a multiple of 16 at a call.
+    let end = (start + 8 * stack.len()) & !15;
+    let top = (end - 8 * given.pushed.len()) & !15;
+    stack[(top - start) / 8..][..given.pushed.len()].copy_from_slice(given.pushed);
+    let [side, p, q, r, s, t] = given.words;
+    let [a, b, c, d] = given.figures;
     unsafe {
         asm!(
             "mov r12, rsp",
@@ -71,10 +96,12 @@ fn painted(stack: &mut [u64], function: usize, side: u32, [a, b, c, d]: [f64; 4]
             "mov rsp, r12",
             top = in(reg) top,
             function = in(reg) function,
-            in("edi") side,
-            in("rsi") &mut total,
-            in("rdx") &mut volatility,
-            in("rcx") &mut count,
+            in("rdi") side,
+            in("rsi") p,
+            in("rdx") q,
+            in("rcx") r,
+            in("r8") s,
+            in("r9") t,
             in("xmm0") a,
             in("xmm1") b,
             in("xmm2") c,
@@ -84,15 +111,37 @@ fn painted(stack: &mut [u64], function: usize, side: u32, [a, b, c, d]: [f64; 4]
         );
     }
     let untouched = stack.iter().take_while(|&&word| word == PAINT).count();
-    top as usize - (stack.as_ptr() as usize + 8 * untouched)
+    end - (start + 8 * untouched)
+}
+
+fn at<T>(place: *const T) -> u64 {
+    place as u64
 }
 
 fn quote_stack(stack: &mut [u64], q: Quote) -> usize {
-    painted(stack, ours::quoter_quote as *const () as usize, q.side, [q.price, q.forward, q.strike, q.time])
+    let (mut total, mut volatility, mut count) = (0.0f64, 0.0f64, 0u64);
+    let words = [q.side as u64, at(&raw mut total), at(&raw mut volatility), at(&raw mut count), 0, 0];
+    let given = Given { words, figures: [q.price, q.forward, q.strike, q.time], pushed: &[] };
+    painted(stack, ours::quoter_quote as *const () as usize, given)
 }
 
 fn price_stack(stack: &mut [u64], k: Keyed) -> usize {
-    painted(stack, ours::quoter_price as *const () as usize, k.side, [k.volatility, k.forward, k.strike, k.time])
+    let mut price = 0.0f64;
+    let words = [k.side as u64, at(&raw mut price), 0, 0, 0, 0];
+    let given = Given { words, figures: [k.volatility, k.forward, k.strike, k.time], pushed: &[] };
+    painted(stack, ours::quoter_price as *const () as usize, given)
+}
+
+/// Of a ladder that has no more places than are lent.
+fn ladder_stack(stack: &mut [u64], l: &Ladder, lent: &mut Lent) -> usize {
+    let (mut roots, n) = (u64::MAX, l.strikes.len() as u64);
+    let words = [l.side as u64, at(l.strikes.as_ptr()), n, at(l.prices.as_ptr()), n, at(lent.totals.as_mut_ptr())];
+    let [volatilities, counts] = [at(lent.volatilities.as_mut_ptr()), at(lent.counts.as_mut_ptr())];
+    let pushed = [n, volatilities, n, counts, n, at(lent.refusals.as_mut_ptr()), n, at(&raw mut roots)];
+    let given = Given { words, figures: [l.forward, l.time, 0.0, 0.0], pushed: &pushed };
+    let taken = painted(stack, ours::quoter_ladder as *const () as usize, given);
+    assert!(roots <= n, "the ladder is solved");
+    taken
 }
 
 /// Calls and puts at all distances from the bound of their price, where an exponential may leave its fast path.
@@ -107,16 +156,33 @@ fn near_bound(length: usize) -> Vec<Quote> {
     (0..length).map(quote).collect()
 }
 
-/// The most over quotes of every kind.
-fn quotes_stack() -> usize {
-    let mut stack = vec![PAINT; WORDS];
-    let mut most = 0;
+/// Quotes of every kind, and near the bound of their price.
+fn all_kinds() -> Vec<Quote> {
+    let mut list = Vec::new();
     for kind in 0..KINDS.len() {
         let mut source = Quotes::new(kind, 1);
-        (0..QUOTES).for_each(|_| most = most.max(quote_stack(&mut stack, source.next())));
+        list.extend((0..QUOTES).map(|_| source.next()));
     }
-    near_bound(NEAR_BOUND).into_iter().for_each(|q| most = most.max(quote_stack(&mut stack, q)));
-    most
+    list.extend(near_bound(NEAR_BOUND));
+    list
+}
+
+/// The most over these quotes.
+fn quotes_stack(list: &[Quote]) -> usize {
+    let mut stack = vec![PAINT; WORDS];
+    list.iter().map(|&q| quote_stack(&mut stack, q)).max().unwrap()
+}
+
+/// Each quote as a ladder of one place; 500 that follow each other as a ladder; desk ladders.
+fn ladders(list: &[Quote]) -> Vec<Ladder> {
+    let pieces = list.chunks(1).chain(list.chunks(PLACES));
+    pieces.map(Ladder::of).chain(ladder::desk_ladders()).collect()
+}
+
+/// The most over these ladders.
+fn ladders_stack(list: &[Ladder]) -> usize {
+    let (mut stack, mut lent) = (vec![PAINT; WORDS], Lent::new(PLACES));
+    list.iter().map(|l| ladder_stack(&mut stack, l, &mut lent)).max().unwrap()
 }
 
 /// The most over prices of every kind.
@@ -180,17 +246,28 @@ fn print<T: std::fmt::Display>(what: &str, found: Option<T>, tool: &str) {
     }
 }
 
+fn print_stack(of: &str, calls: usize, allowed: usize, found: usize) {
+    print(&format!("stack of a {of}, most of {calls} (painted), of {allowed}"), Some(found), "");
+}
+
 pub fn table(target: &Path) {
     for which in ["ours", "rust", "platform"] {
-        let found = instructions(which).map(|n| n.round());
+        let found = instructions(which, QUOTES);
         print(&format!("instructions a desk quote, {which} (callgrind)"), found, "valgrind");
     }
+    let places = PLACES * ladder::LADDERS;
+    print("instructions a place, ladder (callgrind)", instructions("ladder", places), "valgrind");
+    print("instructions a place, its quote (callgrind)", instructions("quotes", places), "valgrind");
     let library = sizes(&target.join("staticlib/libexports.a"));
     print("library: text, bytes", library.map(|[text, _]| text), "size");
     print("library: constants, bytes", library.map(|[_, constants]| constants), "size");
     print("library: both, of 98304", library.map(|[text, constants]| text + constants), "size");
-    print(&format!("stack of a quote, most of {} (painted), of 4096", QUOTES * KINDS.len() + NEAR_BOUND), Some(quotes_stack()), "");
-    print(&format!("stack of a price, most of {} (painted), of 4096", PRICES * PRICE_KINDS.len()), Some(prices_stack()), "");
+    let quotes = all_kinds();
+    let ladders = ladders(&quotes);
+    let quote = quotes_stack(&quotes);
+    print_stack("quote", quotes.len(), 4096, quote);
+    print_stack("price", PRICES * PRICE_KINDS.len(), 4096, prices_stack());
+    print_stack("ladder", ladders.len(), quote + 256, ladders_stack(&ladders));
     let found = sheet_stack(&target.join("bin/sheet"), &target.join("bench/massif.out"));
     print("stack of program sheet, 1,000 quotes (massif), of 49152", found, "valgrind or target/bin/sheet");
 }

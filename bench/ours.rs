@@ -1,5 +1,6 @@
 //! The C interface of `exports` (include/quoter.h).
 
+use crate::ladder::{Ladder, Lent};
 use oracle::inputs::Quote;
 use oracle::price;
 use oracle::price_inputs::Keyed;
@@ -34,6 +35,24 @@ unsafe extern "C" {
         count: *mut u64,
     ) -> u32;
     pub fn quoter_price(side: u32, volatility: f64, forward: f64, strike: f64, time: f64, price: *mut f64) -> u32;
+    pub fn quoter_ladder(
+        side: u32,
+        forward: f64,
+        time: f64,
+        strikes: *const f64,
+        strike_count: u64,
+        prices: *const f64,
+        price_count: u64,
+        totals: *mut f64,
+        total_count: u64,
+        volatilities: *mut f64,
+        volatility_count: u64,
+        counts: *mut u64,
+        count_count: u64,
+        refusals: *mut u32,
+        refusal_count: u64,
+        roots: *mut u64,
+    ) -> u32;
 }
 
 /// A function of `vectors` by its number.
@@ -63,11 +82,16 @@ pub fn value(function: u32, a: f64, b: f64, c: f64) -> f64 {
     }
 }
 
+/// The number that is returned.
+#[inline]
+pub fn quote_into(q: Quote, total: &mut f64, volatility: &mut f64, count: &mut u64) -> u32 {
+    unsafe { quoter_quote(q.side, q.price, q.forward, q.strike, q.time, total, volatility, count) }
+}
+
 #[inline]
 pub fn quote(q: Quote) -> Outcome {
     let (mut total, mut volatility, mut count) = (0.0, 0.0, 0);
-    match unsafe { quoter_quote(q.side, q.price, q.forward, q.strike, q.time, &mut total, &mut volatility, &mut count) }
-    {
+    match quote_into(q, &mut total, &mut volatility, &mut count) {
         0 => Outcome::Answer { total, volatility, count },
         number => Outcome::Refusal { number, count },
     }
@@ -80,4 +104,31 @@ pub fn price(k: Keyed) -> price::Outcome {
         0 => price::Outcome::Price(price),
         number => price::Outcome::Refusal { number, count: 0 },
     }
+}
+
+/// How many strike roots were taken; none where the ladder is refused.
+#[inline]
+pub fn ladder(l: &Ladder, lent: &mut Lent) -> Option<u64> {
+    let mut roots = 0;
+    let number = unsafe {
+        quoter_ladder(
+            l.side,
+            l.forward,
+            l.time,
+            l.strikes.as_ptr(),
+            l.strikes.len() as u64,
+            l.prices.as_ptr(),
+            l.prices.len() as u64,
+            lent.totals.as_mut_ptr(),
+            lent.totals.len() as u64,
+            lent.volatilities.as_mut_ptr(),
+            lent.volatilities.len() as u64,
+            lent.counts.as_mut_ptr(),
+            lent.counts.len() as u64,
+            lent.refusals.as_mut_ptr(),
+            lent.refusals.len() as u64,
+            &mut roots,
+        )
+    };
+    (number == 0).then_some(roots)
 }

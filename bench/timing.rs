@@ -8,7 +8,7 @@ use std::hint::black_box;
 use std::time::Instant;
 
 const INPUTS: usize = 4096;
-const ROUNDS: usize = 100;
+pub const ROUNDS: usize = 100;
 
 type Figures = [f64; 3];
 
@@ -33,12 +33,13 @@ pub fn least<const N: usize, I: Copy>(
     std::array::from_fn(|i| best.iter().map(|times| times[i]).sum::<f64>() * 1e9 / inputs.len() as f64)
 }
 
-fn row(name: &str, [ours, rust, platform]: [f64; 3]) {
-    println!("{name:36} {ours:9.1} {rust:9.1} {platform:9.1} {:8.2} {:8.2}", ours / rust, ours / platform);
+/// Three times, and the first over the others.
+pub fn row(name: &str, [a, b, c]: [f64; 3]) {
+    println!("{name:36} {a:9.1} {b:9.1} {c:9.1} {:8.2} {:8.2}", a / b, a / c);
 }
 
 /// Says how many results differ, where some do.
-fn report(unlike: usize, of: usize) {
+pub fn report(unlike: usize, of: usize) {
     if unlike > 0 {
         println!("  {unlike} of {of} differ");
     }
@@ -108,13 +109,19 @@ pub fn ours(q: Quote) {
     black_box(ours::quote(q));
 }
 
-pub fn rust(q: Quote) {
+/// The source's quote entry.
+#[inline]
+pub fn source(q: Quote) -> Option<f64> {
     use oracle::DefaultSpecialFn;
     use oracle::explicit_black::implied_black_volatility_input as input;
-    black_box(match q.side {
+    match q.side {
         0 => input::<DefaultSpecialFn, true>(q.price, q.forward, q.strike, q.time),
         _ => input::<DefaultSpecialFn, false>(q.price, q.forward, q.strike, q.time),
-    });
+    }
+}
+
+pub fn rust(q: Quote) {
+    black_box(source(q));
 }
 
 pub fn plain(q: Quote) {
@@ -126,7 +133,7 @@ pub fn plain(q: Quote) {
     });
 }
 
-fn expected(q: Quote) -> Outcome {
+pub fn expected(q: Quote) -> Outcome {
     oracle::quote::quote(q.side, q.price, q.forward, q.strike, q.time)
 }
 

@@ -1,14 +1,16 @@
 /* Calls every function of include/quoter.h.
 
-   usage: c-interface             values known from docs/REQUIREMENTS.md: refusals, the sample sheet, keystrokes, prices
+   usage: c-interface             values known from docs/REQUIREMENTS.md: refusals, the sample sheet, keystrokes, prices, ladders
           c-interface vectors     the interface of `vectors` but for signum, max and min
           c-interface lines       the interface of `sheet`, by quoter_sheet_line
           c-interface quotes      the same, by quoter_sheet_size and quoter_sheet_quote
           c-interface prices      the interface of `prices`
+          c-interface ladders     the interface of `ladders`
 
    Exit status: 0 all well, 1 a known value differs, 2 bad usage. */
 #include "quoter.h"
 
+#include <float.h>
 #include <inttypes.h>
 #include <math.h>
 #include <stdio.h>
@@ -184,6 +186,196 @@ static void known_price_pairs(void)
     price("4^500 times, in the money", 0, 0.2, 0x78p1000, 0x64p1000, 1.0, 0, 0x1p1000 * (put + 20.0));
 }
 
+/* The six slices of a ladder. GUARD places before and after each are the caller's own. */
+enum { GUARD = 8, SPAN = 512, ROOM = GUARD + SPAN + GUARD };
+struct slices {
+    double strikes[ROOM], prices[ROOM], totals[ROOM], volatilities[ROOM];
+    uint64_t counts[ROOM];
+    uint32_t refusals[ROOM];
+};
+
+/* In the order of the call: strikes, prices, totals, volatilities, counts, refusals. */
+struct lengths {
+    uint64_t of[6];
+};
+
+static struct lengths equal(uint64_t length)
+{
+    return (struct lengths){{length, length, length, length, length, length}};
+}
+
+static struct lengths but(struct lengths lengths, int slice, uint64_t length)
+{
+    lengths.of[slice] = length;
+    return lengths;
+}
+
+static uint32_t call(uint32_t side, double forward, double time, struct slices *s, struct lengths n, uint64_t *roots)
+{
+    return quoter_ladder(side, forward, time, s->strikes + GUARD, n.of[0], s->prices + GUARD, n.of[1], s->totals + GUARD, n.of[2],
+                         s->volatilities + GUARD, n.of[3], s->counts + GUARD, n.of[4], s->refusals + GUARD, n.of[5], roots);
+}
+
+/* No two places of the lent slices hold the same. Strikes and prices are those of an answer. */
+static void fill(struct slices *s)
+{
+    for (int i = 0; i < ROOM; i++) {
+        s->strikes[i] = 120.0;
+        s->prices[i] = 1.0;
+        s->totals[i] = -1.0 - i;
+        s->volatilities[i] = -10001.0 - i;
+        s->counts[i] = UINT64_MAX - (uint64_t)i;
+        s->refusals[i] = UINT32_MAX - (uint32_t)i;
+    }
+}
+
+/* A strike, a price, and what the words say of the quote: its refusal or 0; its total, NAN standing for one that is finite and above 0; and whether
+   the strike's root is taken. */
+struct place {
+    double strike, price;
+    uint32_t number;
+    double total;
+    int taken;
+};
+
+/* At forward 100 and a time above 0. A price at its bound is not below it. */
+static const struct place CALLS[] = {
+    {120.0, 1.0, 0, NAN, 1}, {80.0, 25.0, 0, NAN, 1}, {100.0, 5.0, 0, NAN, 1}, {DBL_MAX, 50.0, 0, NAN, 1},
+    {120.0, 0.0, 0, 0.0, 1}, {120.0, -0.0, 0, 0.0, 1}, {80.0, 20.0, 0, 0.0, 1}, {100.0, 0.0, 0, 0.0, 1},
+    {120.0, 100.0, 0, INFINITY, 0}, {0x1p-1074, 100.0, 0, INFINITY, 0},
+    {NAN, 1.0, 2, 0.0, 0}, {INFINITY, 1.0, 2, 0.0, 0}, {120.0, NAN, 2, 0.0, 0}, {120.0, -INFINITY, 2, 0.0, 0}, {0.0, NAN, 2, 0.0, 0},
+    {0.0, 1.0, 3, 0.0, 0}, {-0.0, 101.0, 3, 0.0, 0}, {-120.0, 1.0, 3, 0.0, 0},
+    {120.0, 101.0, 6, 0.0, 0}, {120.0, 100.0 + 0x1p-46, 6, 0.0, 0},
+    {120.0, -1.0, 7, 0.0, 1}, {80.0, 19.0, 7, 0.0, 1},
+    {120.0, 1.0, 0, NAN, 1},
+};
+/* At forward 184.15 and a time above 0. */
+static const struct place PUTS[] = {
+    {92.075, 46.0, 0, NAN, 1}, {200.0, 150.0, 0, NAN, 1}, {184.15, 0.0, 0, 0.0, 1}, {92.075, 92.075, 0, INFINITY, 0}, {200.0, 200.0, 0, INFINITY, 0},
+    {1.0, INFINITY, 2, 0.0, 0}, {-1.0, 1.0, 3, 0.0, 0}, {92.075, 93.0, 6, 0.0, 0}, {200.0, 1.0, 7, 0.0, 1}, {92.075, 92.07499999999999, 8, 0.0, 1},
+};
+/* Calls at forward 120 and time 0. */
+static const struct place EXPIRED[] = {
+    {100.0, 20.0, 0, 0.0, 0}, {130.0, 0.0, 0, 0.0, 0}, {130.0, -0.0, 0, 0.0, 0}, {NAN, 20.0, 2, 0.0, 0}, {100.0, NAN, 2, 0.0, 0},
+    {0.0, 0.0, 3, 0.0, 0}, {100.0, 19.0, 5, 0.0, 0}, {130.0, 1.0, 5, 0.0, 0}, {100.0, 120.0, 5, 0.0, 0}, {100.0, 121.0, 5, 0.0, 0},
+};
+#define PLACES(list) (int)(sizeof list / sizeof list[0])
+
+/* Writes the quote by itself to its place; whether it is as the words say. */
+static int by_itself(uint32_t side, double forward, double time, const struct place *p, struct slices *right, int at)
+{
+    double total = 0.0, volatility = 0.0;
+    uint64_t count = 7;
+    uint32_t number = quoter_quote(side, p->price, forward, p->strike, time, &total, &volatility, &count);
+    right->totals[at] = total;
+    right->volatilities[at] = volatility;
+    right->counts[at] = count;
+    right->refusals[at] = number;
+    return number == p->number && (isnan(p->total) ? total > 0.0 && total <= DBL_MAX : bits(total) == bits(p->total));
+}
+
+/* The places of the list over and over, `length` in all. What is not of the ladder stays as it was. */
+static void ladder(const char *what, uint32_t side, double forward, double time, const struct place *list, int listed, int length)
+{
+    static struct slices found, right;
+    uint64_t roots = 7, taken = 0;
+    int as_known = 1;
+    fill(&found);
+    for (int i = 0; i < length; i++) {
+        found.strikes[GUARD + i] = list[i % listed].strike;
+        found.prices[GUARD + i] = list[i % listed].price;
+    }
+    memcpy(&right, &found, sizeof right);
+    for (int i = 0; i < length; i++) {
+        as_known &= by_itself(side, forward, time, &list[i % listed], &right, GUARD + i);
+        taken += (uint64_t)list[i % listed].taken;
+    }
+    uint32_t number = call(side, forward, time, &found, equal((uint64_t)length), &roots);
+    check(what, number == 0 && roots == taken && as_known && memcmp(&found, &right, sizeof right) == 0);
+}
+
+/* Every place refused with one number, but for those that test 2 or 3 refuses before it; no root is taken. */
+static void all_refused(const char *what, uint32_t side, double forward, double time, uint32_t number)
+{
+    struct place list[PLACES(CALLS)];
+    for (int i = 0; i < PLACES(CALLS); i++) {
+        uint32_t own = CALLS[i].number;
+        list[i] = (struct place){CALLS[i].strike, CALLS[i].price, (own == 2 || own == 3) && own < number ? own : number, 0.0, 0};
+    }
+    ladder(what, side, forward, time, list, PLACES(CALLS), PLACES(CALLS));
+}
+
+static void known_ladders(void)
+{
+    static const double times[] = {1.0, 0.25, 10.0, 0x1p-1074, DBL_MAX};
+    for (int i = 0; i < 5; i++) {
+        ladder("calls", 0, 100.0, times[i], CALLS, PLACES(CALLS), PLACES(CALLS));
+        ladder("puts", 1, 184.15, times[i], PUTS, PLACES(PUTS), PLACES(PUTS));
+    }
+    for (int i = 0; i < PLACES(CALLS); i++)
+        ladder("one call", 0, 100.0, 0.25, CALLS + i, 1, 1);
+    ladder("time zero", 0, 120.0, 0.0, EXPIRED, PLACES(EXPIRED), PLACES(EXPIRED));
+    ladder("time minus zero", 0, 120.0, -0.0, EXPIRED, PLACES(EXPIRED), PLACES(EXPIRED));
+    ladder("499 calls", 0, 100.0, 0.25, CALLS, PLACES(CALLS), 499);
+    ladder("500 calls", 0, 100.0, 0.25, CALLS, PLACES(CALLS), 500);
+    ladder("no calls", 0, 100.0, 0.25, CALLS, PLACES(CALLS), 0);
+    all_refused("side 2", 2, 100.0, 1.0, 1);
+    all_refused("side 2^32 - 1, 1 before 2", UINT32_MAX, NAN, -1.0, 1);
+    all_refused("forward NaN", 0, NAN, 1.0, 2);
+    all_refused("time infinite, 2 before 3", 1, -1.0, INFINITY, 2);
+    all_refused("forward zero, 3 before 4", 0, -0.0, -1.0, 3);
+    all_refused("time below zero", 1, 100.0, -0x1p-1074, 4);
+}
+
+/* A refused ladder: nothing is written. */
+static void refused(const char *what, struct lengths given, uint32_t number)
+{
+    static struct slices found, before;
+    uint64_t roots = 7;
+    fill(&found);
+    memcpy(&before, &found, sizeof before);
+    uint32_t returned = call(0, 100.0, 1.0, &found, given, &roots);
+    check(what, returned == number && roots == 7 && memcmp(&found, &before, sizeof before) == 0);
+}
+
+static void known_lengths(void)
+{
+    static const uint64_t counts[] = {1, 3, 499, 500, 501, 511};
+    for (int slice = 0; slice < 6; slice++) {
+        for (int i = 0; i < 6; i++) {
+            struct lengths all = equal(counts[i]);
+            refused("one more", but(all, slice, counts[i] + 1), 12);
+            refused("one less", but(all, slice, counts[i] - 1), 12);
+            refused("none", but(all, slice, 0), 12);
+            refused("places in one alone", but(equal(0), slice, counts[i]), 12);
+        }
+        for (int other = 0; other < slice; other++) {
+            refused("two others", but(but(equal(500), slice, 501), other, 501), 12);
+            refused("two unlike", but(but(equal(501), slice, 500), other, 502), 12);
+        }
+    }
+    refused("501", equal(501), 13);
+    refused("512", equal(512), 13);
+}
+
+/* A slice without places may have no pointer. */
+static void known_empty(void)
+{
+    static struct slices found, before;
+    uint64_t roots = 7;
+    fill(&found);
+    memcpy(&before, &found, sizeof before);
+    uint32_t none = quoter_ladder(0, 100.0, 1.0, NULL, 0, NULL, 0, NULL, 0, NULL, 0, NULL, 0, NULL, 0, &roots);
+    check("no places and no pointers", none == 0 && roots == 0);
+    roots = 7;
+    none = quoter_ladder(2, NAN, -1.0, NULL, 0, NULL, 0, NULL, 0, NULL, 0, NULL, 0, NULL, 0, &roots);
+    check("no places, a bad side, forward and time", none == 0 && roots == 0);
+    roots = 7;
+    uint32_t lent = quoter_ladder(0, 100.0, 1.0, found.strikes, 3, found.prices, 3, NULL, 0, NULL, 0, NULL, 0, NULL, 0, &roots);
+    uint32_t given = quoter_ladder(0, 100.0, 1.0, NULL, 0, NULL, 0, found.totals, 3, found.volatilities, 3, found.counts, 3, found.refusals, 3, &roots);
+    check("some without pointers", lent == 12 && given == 12 && roots == 7 && memcmp(&found, &before, sizeof before) == 0);
+}
+
 /* The header's test of the mode; its figures are the Rust's. */
 static int in_mode(void)
 {
@@ -308,6 +500,9 @@ static int known(void)
     known_pair();
     known_prices();
     known_price_pairs();
+    known_ladders();
+    known_lengths();
+    known_empty();
     known_modes();
     known_sizes();
     known_quotes();
@@ -421,6 +616,82 @@ static int prices(void)
     return 0;
 }
 
+/* Doubles in XDR from standard input; whether all were there. */
+static int read_figures(double *figures, uint64_t count)
+{
+    uint8_t bytes[8];
+    for (uint64_t i = 0; i < count; i++) {
+        if (fread(bytes, 1, sizeof bytes, stdin) != sizeof bytes)
+            return 0;
+        figures[i] = figure(bytes);
+    }
+    return 1;
+}
+
+static void print_figure(int there, double x)
+{
+    if (there)
+        printf("%016" PRIx64 " ", bits(x));
+    else
+        printf("- ");
+}
+
+/* A line for each place of the longest lent slice; `-` where a slice has no such place. */
+static void print_places(const struct slices *s, struct lengths n)
+{
+    for (uint64_t i = 0; i < n.of[2] || i < n.of[3] || i < n.of[4] || i < n.of[5]; i++) {
+        print_figure(i < n.of[2], s->totals[GUARD + i]);
+        print_figure(i < n.of[3], s->volatilities[GUARD + i]);
+        if (i < n.of[4])
+            printf("%" PRIu64, s->counts[GUARD + i]);
+        else
+            printf("-");
+        if (i < n.of[5])
+            printf(" %" PRIu32 "\n", s->refusals[GUARD + i]);
+        else
+            printf(" -\n");
+    }
+}
+
+/* What `ladders` lends, GUARD and all. */
+static void lend(struct slices *s)
+{
+    for (int i = 0; i < ROOM; i++) {
+        s->totals[i] = -1.0;
+        s->volatilities[i] = -2.0;
+        s->counts[i] = UINT64_MAX;
+        s->refusals[i] = UINT32_MAX;
+    }
+}
+
+/* Exit status 1 where a refusal writes a number of roots. A length over 512 ends the run. */
+static int ladders(void)
+{
+    static struct slices s;
+    uint8_t head[44];
+    while (fread(head, 1, sizeof head, stdin) == sizeof head) {
+        struct lengths n;
+        uint64_t roots = UINT64_MAX;
+        for (int i = 0; i < 6; i++) {
+            n.of[i] = word(head + 20 + 4 * i, 4);
+            if (n.of[i] > SPAN)
+                return 0;
+        }
+        if (!read_figures(s.strikes + GUARD, n.of[0]) || !read_figures(s.prices + GUARD, n.of[1]))
+            return 0;
+        lend(&s);
+        uint32_t refused = call((uint32_t)word(head, 4), figure(head + 4), figure(head + 12), &s, n, &roots);
+        if (refused == 0)
+            printf("L %" PRIu64 "\n", roots);
+        else if (roots == UINT64_MAX)
+            printf("R %" PRIu32 " 0\n", refused);
+        else
+            return 1;
+        print_places(&s, n);
+    }
+    return 0;
+}
+
 int main(int argc, char **argv)
 {
     static uint8_t sheet[36005];
@@ -435,6 +706,8 @@ int main(int argc, char **argv)
         return quotes(sheet, fread(sheet, 1, sizeof sheet, stdin));
     if (strcmp(mode, "prices") == 0)
         return prices();
-    fputs("usage: c-interface [vectors | lines | quotes | prices]\n", stderr);
+    if (strcmp(mode, "ladders") == 0)
+        return ladders();
+    fputs("usage: c-interface [vectors | lines | quotes | prices | ladders]\n", stderr);
     return 2;
 }

@@ -26,7 +26,8 @@ ghost use Rattle.explicit_black.specs.Replies.{viewReply};
 ghost use Rattle.ladder.specs.Ladder.{ladder};
 ghost use Rattle.xdr_sheet.specs.Sheet.{size, sheetReply};
 ghost use Rattle.xdr_sheet.specs.Printing.{step};
-ghost use Rattle.exports.specs.ToC.{handedReply, replyToC, sheetReplyToC, handedPrice, priceToC, handedLadder, ladderToC, handedSize, sizeToC, handedLine, lineToC};
+ghost use Rattle.exports.specs.ToC.{handedReply, replyToC, sheetReplyToC, handedPrice, priceToC, handedLadder, ladderToC};
+ghost use Rattle.exports.specs.ToC.{handedSize, sizeToC, handedLine, lineToC};
 
 #[no_mangle]
 pub extern "C" fn quoter_sqrt(x: f64) -> f64

@@ -2,14 +2,15 @@
 use mathlib.Core.Path.{_≡_, refl, sym, ap, _∙_, subst}
 use mathlib.Core.Bool.{false}
 use mathlib.Core.List.{List, map}
-use Prim.Native.Nat.{ℕ, suc, _+_, _≤_, _<_, zero-le}
+use Prim.Native.Nat.{ℕ, _+_, _≤_, _<_, zero-le}
 use native.Mathlib.Numerals.{add-one}
 use native.Mathlib.Omega.{arith}
 use lib.Ieee.{Float}
 use lib.ListN.{length, take, getD, set, length-map, List·getD-map}
 use Rattle.explicit_black.specs.Quote.{Reply, refusal, impliedBlackVolatilityInput}
 use Rattle.ladder.specs.Ladder.{totalOf, volatilityOf, countOf, numberOf, takesRoot, rootsAfter, replies, trues, rootPlaces, solvedLadder}
-use Rattle.ladder.specs.Replies.{viewPlaces}
+use Rattle.ladder.specs.declared.ladder.LadderReply.the-variants.{Solved}
+use Rattle.ladder.specs.Replies.{viewLadder}
 use Rattle.ladder.specs.Laws.Slices.{written, write-next, written-length, written-all, take-all}
 use Rattle.ladder.specs.Laws.Places.{replies-length, root-places-length, reply-at, root-at, trues-next, trues-few, Lengths}
 
@@ -77,24 +78,28 @@ module _ {side : ℕ} {f t : Float} {ks ps t₀ v₀ : List Float} {c₀ r₀ : 
   pub refusals-kept : length rs ≡ length r₀
   refusals-kept = same-length side f t ks ps e numberOf i r₀ rs (l .refusals-equal) (s .refusals)
 
-  pub one-more : (a b : Float) (r : Reply) (n : ℕ) (v w : Float) (c d : ℕ) → i < length ks
-      → r ≡ impliedBlackVolatilityInput side (getD ps i b) f (getD ks i a) t
-      → n ≡ rootsAfter (takesRoot side (getD ps i b) f (getD ks i a) t) roots
+  -- the reply, which was found for equal figures, and the count after it
+  pub one-more : {side' : ℕ} {f' t' : Float} → side' ≡ side → f' ≡ f → t' ≡ t
+      → (a b : Float) (r : Reply) (n : ℕ) (v w : Float) (c d : ℕ) → i < length ks
+      → r ≡ impliedBlackVolatilityInput side' (getD ps i b) f' (getD ks i a) t'
+      → n ≡ rootsAfter (takesRoot side' (getD ps i b) f' (getD ks i a) t') roots
       → (v ≡ totalOf r) × (w ≡ volatilityOf r) × (c ≡ countOf r) × (d ≡ numberOf r)
       → Sofar side f t ks ps t₀ v₀ c₀ r₀ (i + 1) n (set ts i v) (set vs i w) (set cs i c) (set rs i d)
-  one-more a b r n v w c d h q m u = record {
-    within = omega arith;
-    counted = m ∙ rw (s .counted, ← root-at side f t ks ps e i h a b false, add-one i) (sym (trues-next (rootPlaces side f t ks ps) i few));
-    totals = next-written side f t ks ps e totalOf i t₀ ts (l .totals-equal) (s .totals) a b r v h q (u .0);
-    volatilities = next-written side f t ks ps e volatilityOf i v₀ vs (l .volatilities-equal) (s .volatilities) a b r w h q (u .1);
-    counts = next-written side f t ks ps e countOf i c₀ cs (l .counts-equal) (s .counts) a b r c h q (u .2);
-    refusals = next-written side f t ks ps e numberOf i r₀ rs (l .refusals-equal) (s .refusals) a b r d h q (u .3);
-  }
+  one-more x y z a b r n v w c d h p m u =
+      let q : r ≡ impliedBlackVolatilityInput side (getD ps i b) f (getD ks i a) t = p ∙ rw (x, y, z) in
+      record {
+        within = omega arith;
+        counted = m ∙ rw (x, y, z, s .counted, ← root-at side f t ks ps e i h a b false, add-one i) (sym (trues-next (rootPlaces side f t ks ps) i few));
+        totals = next-written side f t ks ps e totalOf i t₀ ts (l .totals-equal) (s .totals) a b r v h q (u .0);
+        volatilities = next-written side f t ks ps e volatilityOf i v₀ vs (l .volatilities-equal) (s .volatilities) a b r w h q (u .1);
+        counts = next-written side f t ks ps e countOf i c₀ cs (l .counts-equal) (s .counts) a b r c h q (u .2);
+        refusals = next-written side f t ks ps e numberOf i r₀ rs (l .refusals-equal) (s .refusals) a b r d h q (u .3);
+      }
     where
       few : i < length (rootPlaces side f t ks ps)
       few = rw (root-places-length side f t ks ps e) h
 
-  pub all-places : {n : ℕ} → n ≡ roots → length ks ≤ i → viewPlaces n ts vs cs rs ≡ solvedLadder side f t ks ps
+  pub all-places : {n : ℕ} → n ≡ roots → length ks ≤ i → viewLadder (Solved n) ts vs cs rs ≡ solvedLadder side f t ks ps
   unfolding solvedLadder
   all-places q h =
       rw (

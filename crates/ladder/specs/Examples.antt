@@ -1,7 +1,6 @@
 -- Ladders that the definitions compute, and two to which demand 3 applies. Assumes nothing.
 use mathlib.Core.Path.{_≡_, refl}
 use mathlib.Core.Logic.{inl, inr}
-use mathlib.Core.Bool.{true, false}
 use mathlib.Core.List.{List, [], _∷_, zipWith}
 use Prim.Native.Nat.{ℕ}
 use lib.IntN.{pos}
@@ -13,12 +12,15 @@ use Rattle.arithmetic.specs.Sqrt.{sqrt}
 use Rattle.explicit_black.specs.Quote.{volatilityOver, firstRefusal, fromTimeValue, fromPrice, fromQuote, impliedBlackVolatilityInput}
 use Rattle.explicit_black.specs.Laws.Demand.{callPrice, callForward, callStrike, putPrice, putForward, putStrike, timeOne, comparable-call, comparable-put}
 use Rattle.explicit_black.specs.Laws.Powers.{four-times}
-use Rattle.ladder.specs.Ladder.{solved, refused, replies, trues, rootPlaces, takesRoot, Ladder, lengthRefusal, solvedLadder, ladder}
+use Rattle.ladder.specs.Ladder.{solved, refused, replies, trues, rootPlaces, takesRoot, lengthRefusal, solvedLadder, ladder}
 use Rattle.ladder.specs.Demand.{Call, called, comparedAt}
 use Rattle.ladder.specs.Laws.Ladder.{other-side-places}
 
 abbrev minusOne : Float
 minusOne = bits 0xBFF0_0000_0000_0000
+
+abbrev twenty : Float
+twenty = bits 0x4034_0000_0000_0000
 
 abbrev hundred : Float
 hundred = bits 0x4059_0000_0000_0000
@@ -49,7 +51,8 @@ unfolding ladder lengthRefusal solvedLadder replies rootPlaces takesRoot trues z
 four-calls = refl
 
 -- at time zero no root is taken: a price that is the intrinsic value, and one that is not
-pub expired : ladder 0 hundredTwenty plusZero (hundred ∷ hundred ∷ []) (bits 0x4034_0000_0000_0000 ∷ one ∷ []) (one ∷ one ∷ []) (one ∷ one ∷ []) (7 ∷ 7 ∷ []) (7 ∷ 7 ∷ [])
+pub expired : ladder 0 hundredTwenty plusZero (hundred ∷ hundred ∷ []) (twenty ∷ one ∷ [])
+    (one ∷ one ∷ []) (one ∷ one ∷ []) (7 ∷ 7 ∷ []) (7 ∷ 7 ∷ [])
     ≡ record {
       result = solved 0;
       totals = plusZero ∷ plusZero ∷ [];

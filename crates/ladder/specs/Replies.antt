@@ -13,7 +13,3 @@ viewLadderReply (Refusal number count) = refused number count
 abbrev pub viewLadder : Handed → List Float → List Float → List ℕ → List ℕ → Ladder
 viewLadder r totals volatilities counts refusals =
     record { result = viewLadderReply r; totals = totals; volatilities = volatilities; counts = counts; refusals = refusals }
-
--- the same, from how many strike roots were taken
-abbrev pub viewPlaces : ℕ → List Float → List Float → List ℕ → List ℕ → Ladder
-viewPlaces roots totals volatilities counts refusals = viewLadder (Solved roots) totals volatilities counts refusals

@@ -1,12 +1,12 @@
 // The entry: lengths are tested, then each place's quote is solved and written.
 use crate::place::Place;
+use crate::place::Shared;
 use crate::place::solve_place;
 use crate::strike_root::StrikeRoots;
-use arithmetic::sqrt::sqrt;
 ghost use mathlib.Core.Path.{_≡_};
 ghost use lib.ListN.{length};
 ghost use Rattle.ladder.specs.Ladder.{lengthRefusal, solvedLadder, ladder};
-ghost use Rattle.ladder.specs.Replies.{viewPlaces, viewLadder};
+ghost use Rattle.ladder.specs.Replies.{viewLadder};
 
 const MAX_STRIKES: usize = 500;
 
@@ -45,7 +45,7 @@ fn length_refusal(
     if strikes > MAX_STRIKES { 13 } else { 0 }
 }
 
-// Solves each place and writes its four values; how many strike roots were taken.
+// Solves each place and writes its four values.
 fn solve_places(
     side: u32,
     forward: f64,
@@ -56,27 +56,17 @@ fn solve_places(
     volatilities: &mut [f64],
     counts: &mut [u64],
     refusals: &mut [u32],
-) -> u64
+) -> LadderReply
     requires { ⌜ lengthRefusal (length (now strikes)) (length (now prices)) (length (now totals)) (length (now volatilities)) (length (now counts))
         (length (now refusals)) ≡ 0 ⌝ }
-    ensures { λ r. ⌜ viewPlaces r (now (totals .exit)) (now (volatilities .exit)) (now (counts .exit)) (now (refusals .exit))
+    ensures { λ r. ⌜ viewLadder r (now (totals .exit)) (now (volatilities .exit)) (now (counts .exit)) (now (refusals .exit))
         ≡ solvedLadder side forward time (now (strikes .entry)) (now (prices .entry)) ⌝ }
 {
-    let root_forward = sqrt(forward);
-    let root_time = sqrt(time);
+    let shared = Shared::of(side, forward, time);
     let mut roots = StrikeRoots::none();
     let mut i: usize = 0;
     while i < strikes.len() {
-        let solved = solve_place(
-            side,
-            prices[i],
-            forward,
-            strikes[i],
-            time,
-            root_forward,
-            root_time,
-            roots,
-        );
+        let solved = solve_place(shared, prices[i], strikes[i], roots);
         let reply = solved.reply;
         let place = Place::of(reply);
         totals[i] = place.total;
@@ -86,7 +76,9 @@ fn solve_places(
         roots = solved.roots;
         i += 1;
     }
-    roots.taken()
+    LadderReply::Solved {
+        roots: roots.taken(),
+    }
 }
 
 // Each place of the four lent slices gets what the quote by itself gives: its figures, 0 where it is refused, its count, and
@@ -120,7 +112,7 @@ pub fn implied_black_volatility_ladder(
             count: 0,
         };
     }
-    let roots = solve_places(
+    solve_places(
         side,
         forward,
         time,
@@ -130,6 +122,5 @@ pub fn implied_black_volatility_ladder(
         volatilities,
         counts,
         refusals,
-    );
-    LadderReply::Solved { roots: roots }
+    )
 }

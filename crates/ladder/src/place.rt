@@ -1,6 +1,7 @@
 // One place of a ladder: its quote solved with the roots of forward and time at hand.
 use crate::strike_root::StrikeRoots;
 use crate::strike_root::strike_root;
+use arithmetic::sqrt::sqrt;
 use explicit_black::quote::Reply;
 use explicit_black::quote::Tested;
 use explicit_black::quote::bound_tests;
@@ -10,11 +11,11 @@ use explicit_black::quote::price_bound;
 use explicit_black::quote::reply_from_roots;
 use explicit_black::quote::volatility;
 ghost use mathlib.Core.Path.{_≡_};
-ghost use Prim.Native.Nat.{_<_};
-ghost use Rattle.arithmetic.specs.Sqrt.{sqrt};
+ghost use Prim.Native.Nat.{_+_, _<_};
 ghost use Rattle.explicit_black.specs.Quote.{refusal, impliedBlackVolatilityInput};
 ghost use Rattle.explicit_black.specs.Replies.{viewReply};
 ghost use Rattle.ladder.specs.Ladder.{totalOf, volatilityOf, countOf, numberOf, takesRoot, rootsAfter};
+ghost use Rattle.ladder.specs.Internal.{HasRoots, openReply};
 
 // The reply to a place's quote, and the strike roots taken up to that place.
 pub struct PlaceReply {
@@ -30,6 +31,30 @@ pub struct Place {
     pub number: u32,
 }
 
+// What the places of a ladder share, and the roots that are taken once.
+pub struct Shared {
+    side: u32,
+    forward: f64,
+    time: f64,
+    root_forward: f64,
+    root_time: f64,
+}
+
+impl Shared {
+    // Takes the two roots, whatever the figures are.
+    pub(crate) fn of(side: u32, forward: f64, time: f64) -> Shared
+        ensures { λ r. ⌜ (r .side ≡ side) × (r .forward ≡ forward) × (r .time ≡ time) × HasRoots r ⌝ }
+    {
+        Shared {
+            side: side,
+            forward: forward,
+            time: time,
+            root_forward: sqrt(forward),
+            root_time: sqrt(time),
+        }
+    }
+}
+
 // A refusal before the strike's root: the count stays.
 fn refused(number: u32, before: StrikeRoots) -> PlaceReply
     ensures { λ r. ⌜ (viewReply (r .reply) ≡ refusal number 0) × (r .roots .taken ≡ before .taken) ⌝ }
@@ -43,21 +68,44 @@ fn refused(number: u32, before: StrikeRoots) -> PlaceReply
     }
 }
 
-// Tests 1 to 6, and what follows where they leave the price below its bound at a time above zero: only there is the strike's root taken.
-pub(crate) fn solve_place(
-    side: u32,
+// Takes the strike's root of a price that passed tests 1 to 6.
+fn solve_open(
+    shared: Shared,
     price: f64,
-    forward: f64,
+    intrinsic: f64,
     strike: f64,
-    time: f64,
-    root_forward: f64,
-    root_time: f64,
-    roots: StrikeRoots,
+    before: StrikeRoots,
 ) -> PlaceReply
-    requires { ⌜ («root_forward» ≡ sqrt forward) × («root_time» ≡ sqrt time) × (roots .taken < 500) ⌝ }
-    ensures { λ r. ⌜ (viewReply (r .reply) ≡ impliedBlackVolatilityInput side price forward strike time)
-        × (r .roots .taken ≡ rootsAfter (takesRoot side price forward strike time) (roots .taken)) ⌝ }
+    requires { ⌜ HasRoots shared × (before .taken < 500) ⌝ }
+    ensures { λ r. ⌜ (viewReply (r .reply) ≡ openReply (shared .forward) (shared .time) price intrinsic strike)
+        × (r .roots .taken ≡ before .taken + 1) ⌝ }
 {
+    let taken = strike_root(strike, before);
+    let after = taken.roots;
+    PlaceReply {
+        reply: reply_from_roots(
+            price,
+            intrinsic,
+            shared.forward,
+            strike,
+            shared.root_forward,
+            taken.root,
+            shared.time,
+            shared.root_time,
+        ),
+        roots: after,
+    }
+}
+
+// Tests 1 to 6, and what follows where they leave the price below its bound at a time above zero: only there is the strike's root taken.
+pub(crate) fn solve_place(shared: Shared, price: f64, strike: f64, roots: StrikeRoots) -> PlaceReply
+    requires { ⌜ HasRoots shared × (roots .taken < 500) ⌝ }
+    ensures { λ r. ⌜ (viewReply (r .reply) ≡ impliedBlackVolatilityInput (shared .side) price (shared .forward) strike (shared .time))
+        × (r .roots .taken ≡ rootsAfter (takesRoot (shared .side) price (shared .forward) strike (shared .time)) (roots .taken)) ⌝ }
+{
+    let side = shared.side;
+    let forward = shared.forward;
+    let time = shared.time;
     let number = first_refusal(side, price, forward, strike, time);
     if number != 0 {
         return refused(number, roots);
@@ -67,29 +115,13 @@ pub(crate) fn solve_place(
         Tested::Total(total) => PlaceReply {
             reply: Reply::Answer {
                 total: total,
-                volatility: volatility(total, time, root_time),
+                volatility: volatility(total, time, shared.root_time),
                 count: 0,
             },
             roots: roots,
         },
         Tested::Refused(number) => refused(number, roots),
-        Tested::Open => {
-            let taken = strike_root(strike, roots);
-            let roots = taken.roots;
-            PlaceReply {
-                reply: reply_from_roots(
-                    price,
-                    intrinsic,
-                    forward,
-                    strike,
-                    root_forward,
-                    taken.root,
-                    time,
-                    root_time,
-                ),
-                roots: roots,
-            }
-        }
+        Tested::Open => solve_open(shared, price, intrinsic, strike, roots),
     }
 }
 

@@ -8,7 +8,7 @@ use mathlib.Core.Bool.{Bool, true, false, _&&_, _||_, true≢false}
 use lib.IntN.{pos}
 use lib.Dec.{T, ltb, eqb, ltb→lt, eqb→eq}
 use lib.Pow.{pow-pos}
-use lib.Ieee.{Float, nan, inf, fin, Format, binary64, low, up, down, size, units, round, neg, lt, le, fits}
+use lib.Ieee.{Float, nan, inf, fin, Format, binary64, low, up, down, size, units, round, neg, le, fits}
 use lib.Ieee.Fits.{round-is}
 use lib.Ieee.Nearest.{closest, closest-mono}
 use lib.Ieee.Order.{transfer, drop, round-mono, le-of-values}

@@ -8,15 +8,19 @@ use Rattle.exports.proofs.quoter_ladder.Tie as tie
 returns : tie.Need-returns
 returns c =
     let is-solved = c .before in
-    let lent-back = is-solved .before .before .before .before .before in
-    let at-entry = lent-back .before .before .before .before .before in
+    let matched = is-solved .before .before in
+    let lent-back = matched .before .before .before in
+    let lent = lent-back .before .before in
+    let at-entry = lent .before .before .before in
     ap (ladderToC _) (rw (is-solved .n .given .1) at (at-entry .implied-black-volatility-ladder .ensures))
 
 returns-2 : tie.Need-returns-2
 returns-2 c =
     let is-refused = c .before in
-    let lent-back = is-refused .before .before .before .before .before in
-    let at-entry = lent-back .before .before .before .before .before in
+    let matched = is-refused .before .before in
+    let lent-back = matched .before .before .before in
+    let lent = lent-back .before .before in
+    let at-entry = lent .before .before .before in
     ap (ladderToC _) (rw (is-refused .number .given .1) at (at-entry .implied-black-volatility-ladder .ensures))
 
 pub quoter-ladder-spec : {M : Type 1} → statement M

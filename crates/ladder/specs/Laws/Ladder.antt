@@ -10,12 +10,11 @@ use lib.IntN.{ℤ}
 use lib.Ieee.{Float}
 use lib.ListN.{length, getD, length-map, List·getD-map}
 use Rattle.arithmetic.specs.Operations.{bits, plusZero}
-use Rattle.arithmetic.specs.Laws.Choices.{never}
 use Rattle.explicit_black.specs.Counted.{Option, some, none, Counted}
 use Rattle.explicit_black.specs.Quote.{Outcome, total, refused, Reply, answer, refusal, firstRefusal, intrinsicValue, priceBound, boundTests}
 use Rattle.explicit_black.specs.Quote.{replyOf, impliedBlackVolatilityInput}
 use Rattle.explicit_black.specs.Demand.{compared, Exactly, ComparableFigures, ComparableTimes}
-use Rattle.explicit_black.specs.Laws.Quote.{Facts, input-facts}
+use Rattle.explicit_black.specs.Laws.Quote.{input-facts}
 use Rattle.explicit_black.specs.Laws.Demand.{inputAtBits, same-side, other-side}
 use Rattle.ladder.specs.Ladder.{totalOf, volatilityOf, countOf, numberOf, takesRoot, replies, trues, rootPlaces, strikeRoots}
 use Rattle.ladder.specs.Ladder.{Ladder, lengthRefusal, solvedLadder, ladder}

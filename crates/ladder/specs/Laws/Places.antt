@@ -8,20 +8,21 @@ use native.Mathlib.Omega.{arith}
 use borrow.Author.Tests.{ne-eqb, lt-ltb, le-ltb}
 use lib.Dec.{T, eqb, ltb, eqb→eq, eqb-refl, nltb→le, lit≤}
 use lib.ListN.{length, take, getD}
-use lib.Ieee.{Float, lt, le, eq, ofBits}
+use lib.Ieee.{Float, le, eq, ofBits}
 use lib.Ieee.Bits.{is-true}
 use lib.Ieee.Scale.{finite}
 use Rattle.arithmetic.specs.Operations.{_⊗_, plusZero}
-use Rattle.arithmetic.specs.Basic.{isFinite}
 use Rattle.arithmetic.specs.Sqrt.{sqrt}
 use Rattle.arithmetic.specs.Laws.Choices.{in-both, refuted, never}
 use Rattle.arithmetic.specs.Laws.Compare.{lt-is-not-le}
 use Rattle.bs_option_price.specs.BsOptionPrice.{negativeAbsLogMoneyness}
-use Rattle.explicit_black.specs.Counted.{Option, some, none, orElse}
-use Rattle.explicit_black.specs.Quote.{Outcome, total, Reply, answer, refusal, volatilityOver, replyOf, replyOver, firstRefusal, intrinsicValue, priceBound, boundTests}
+use Rattle.explicit_black.specs.Counted.{some, none, orElse}
+use Rattle.explicit_black.specs.Quote.{Outcome, total, Reply, answer, refusal, volatilityOver, replyOf, replyOver}
+use Rattle.explicit_black.specs.Quote.{firstRefusal, intrinsicValue, priceBound, boundTests}
 use Rattle.explicit_black.specs.Quote.{normalisedTimeValue, fromTimeValue, fromPrice, fromQuote, impliedBlackVolatilityInput}
-use Rattle.explicit_black.specs.Laws.Quote.{Domain, passed}
+use Rattle.explicit_black.specs.Laws.Quote.{passed}
 use Rattle.ladder.specs.Ladder.{takesRoot, rootsAfter, replies, trues, rootPlaces, areEqual, lengthRefusal}
+use Rattle.ladder.specs.Internal.{openReply}
 use Rattle.ladder.specs.Laws.Slices.{zip-length, zip-at}
 
 module _ (side : ℕ) (p f k t : Float) where
@@ -76,11 +77,10 @@ module _ (side : ℕ) (p f k t : Float) where
         go false true i j g = refl
         go false false i j g = never (cc)
 
-    -- left open by them: what follows from the roots and the intrinsic value
-    pub open-reply : (d rf rk rt : Float) → d ≡ intrinsic → rf ≡ sqrt f → rk ≡ sqrt k → rt ≡ sqrt t → none ≡ boundTests p intrinsic bound t
-        → replyOver t rt (fromTimeValue (negativeAbsLogMoneyness f k) (normalisedTimeValue p d (rf ⊗ rk))) ≡ impliedBlackVolatilityInput side p f k t
+    -- left open by them
+    pub open-reply : (d : Float) → d ≡ intrinsic → none ≡ boundTests p intrinsic bound t → openReply f t p d k ≡ impliedBlackVolatilityInput side p f k t
     unfolding impliedBlackVolatilityInput fromQuote fromPrice orElse
-    open-reply d rf rk rt u a b c h = rw (u, a, b, c, e, ← h)
+    open-reply d u h = rw (u, e, ← h)
 
     pub open-root : none ≡ boundTests p intrinsic bound t → takesRoot side p f k t ≡ true
     unfolding boundTests
@@ -90,6 +90,11 @@ module _ (side : ℕ) (p f k t : Float) where
         go true v i j g = never (cc)
         go false true i j g = never (cc)
         go false false i j g = refl
+
+-- the reply from roots that were taken before
+pub from-roots-open : (f t p d k rf rk rt : Float) → rf ≡ sqrt f → rk ≡ sqrt k → rt ≡ sqrt t
+    → replyOver t rt (fromTimeValue (negativeAbsLogMoneyness f k) (normalisedTimeValue p d (rf ⊗ rk))) ≡ openReply f t p d k
+from-roots-open f t p d k rf rk rt a b c = rw (a, b, c)
 
 -- ---- at place i of a ladder with as many prices as strikes
 module _ (side : ℕ) (f t : Float) (ks ps : List Float) (e : length ps ≡ length ks) where

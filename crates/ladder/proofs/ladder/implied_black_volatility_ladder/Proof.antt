@@ -13,10 +13,13 @@ returns c = rw (← c .before .length-refusal .ensures, ne-eqb (c .before .lengt
 returns-2 : tie.Need-returns-2
 unfolding ladder
 returns-2 c =
-    let lent-back = c .before .before .before .before in
-    let solved = lent-back .before .before .before .before in
-    let lent = solved .before .before .before .before in
-    let accepted = lent .before in
+    let counts-back = c .before .before in
+    let totals-back = counts-back .before .before in
+    let counts-given-back = totals-back .before .before in
+    let solved = counts-given-back .before .before in
+    let counts-lent = solved .before .before in
+    let totals-lent = counts-lent .before .before in
+    let accepted = totals-lent .before in
     rw (← accepted .before .length-refusal .ensures, eq-eqb (accepted .before .length-refusal .result) 0 (omega arith)) (solved .solve-places .ensures)
 
 pub implied-black-volatility-ladder-spec : {M : Type 1} → statement M

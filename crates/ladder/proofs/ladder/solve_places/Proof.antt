@@ -9,21 +9,26 @@ use Rattle.ladder.proofs.ladder.solve_places.Statement.{statement}
 use Rattle.ladder.proofs.ladder.solve_places.Tie as tie
 
 abbrev Inv-loop : tie.InvT-loop
-Inv-loop side forward time strikes prices t₀ v₀ c₀ r₀ root-forward root-time roots₀ i₀ totals volatilities counts refusals roots i =
+Inv-loop side forward time strikes prices t₀ v₀ c₀ r₀ shared roots₀ i₀ totals volatilities counts refusals roots i =
     Sofar side forward time strikes prices t₀ v₀ c₀ r₀ i (roots .taken) totals volatilities counts refusals
 
 abbrev μ-loop : tie.MeasureT-loop
-μ-loop side forward time strikes prices t₀ v₀ c₀ r₀ root-forward root-time roots₀ i₀ totals volatilities counts refusals roots i = length strikes - i
+μ-loop side forward time strikes prices t₀ v₀ c₀ r₀ shared roots₀ i₀ totals volatilities counts refusals roots i = length strikes - i
 
 loop-holds : tie.Need-loop-holds Inv-loop μ-loop
 loop-holds c = nothing-yet _ _ _ _ _ _ _ _ _ (c .none .ensures)
 
--- back from the loop's head to the start, and from what a place's reply is written to
+-- back from the loop's head to where the two roots are taken, and to the start
+abbrev at-shared : tie.At-loop Inv-loop μ-loop → tie.After-of Inv-loop μ-loop
+at-shared h =
+    let at-none = h .before in
+    at-none .before
+
 abbrev at-start : tie.At-loop Inv-loop μ-loop → tie.Start Inv-loop μ-loop
 at-start h =
-    let at-sqrt = h .before .before .before in
-    let lent = at-sqrt .before in
-    lent .before .before .before .before .before .before
+    let slices-known = at-shared h .before in
+    let strikes-known = slices-known .before .before .before in
+    strikes-known .before .before .before
 
 -- six equal lengths, at most 500
 lengths : (h : tie.At-loop Inv-loop μ-loop) → let a = at-start h .args in
@@ -50,11 +55,10 @@ solve-place-requires : tie.Need-solve-place-requires Inv-loop μ-loop
 solve-place-requires c κs =
     let turn = c .before .before in
     let at-loop = turn .before in
-    let at-none = at-loop .before in
-    (at-none .before .before .sqrt .ensures, at-none .before .sqrt2 .ensures, room (lengths at-loop) (at-loop .loop .inv) (turn .loop-test .taken))
+    (at-shared at-loop .of .ensures .3, room (lengths at-loop) (at-loop .loop .inv) (turn .loop-test .taken))
 
 -- back from the place that is written to its turn
-abbrev at-turn : tie.After-of Inv-loop μ-loop → tie.In-loop Inv-loop μ-loop
+abbrev at-turn : tie.After-of2 Inv-loop μ-loop → tie.In-loop Inv-loop μ-loop
 at-turn w =
     let at-solved = w .before in
     at-solved .before .before .before
@@ -101,8 +105,9 @@ loop-again c =
     let at-solved = at-place .before in
     let turn = at-turn at-place in
     let h = turn .before in
-    one-more (lengths h) (h .loop .inv) _ _ _ _ _ _ _ _ (turn .loop-test .taken) (at-solved .solve-place .ensures .0) (at-solved .solve-place .ensures .1)
-    (at-place .of .ensures)
+    let same = at-shared h .of .ensures in
+    let solved = at-solved .solve-place .ensures in
+    one-more (lengths h) (h .loop .inv) (same .0) (same .1) (same .2) _ _ _ _ _ _ _ _ (turn .loop-test .taken) (solved .0) (solved .1) (at-place .of2 .ensures)
 
 same-length : tie.Need-same-length Inv-loop μ-loop
 same-length c = let h = c .before .before in totals-kept (lengths h) (h .loop .inv)
@@ -125,7 +130,7 @@ returns c =
 pub solve-places-spec : {M : Type 1} → statement M
 solve-places-spec =
     tie.close
-    (tie.spec Inv-loop μ-loop (λ c κs. tt) (λ c κs. tt) (λ c κs. tt) loop-holds
+    (tie.spec Inv-loop μ-loop (λ c κs. tt) (λ c κs. tt) loop-holds
     mul-solve-place shared-slice-read-solve-place mul-solve-place-2 (λ c. search needs) solve-place-requires (λ c κs. tt)
     mul-totals slice-write-totals mul-totals slice-write-volatilities mul-totals slice-write-counts mul-refusals slice-write-refusals
     add-i loop-less loop-again (λ c κs. tt) same-length same-length-2 same-length-3 same-length-4 returns)

@@ -53,7 +53,8 @@ module _ (side : ℕ) (f t : Float) (ks ps : List Float) where
           let value : getD (map g all) i (g (refusal 0 0)) ≡ v =
           List·getD-map g all i (refusal 0 0) ∙ ap g (reply-at side f t ks ps e i l a b (refusal 0 0) ∙ sym q) ∙ sym u in
           rw (add-one i, w, ← value)
-          (write-next (map g all) before i (g (refusal 0 0)) (subst (λ (n : ℕ). i < n) (sym h ∙ sym values-length) l) (subst (λ (n : ℕ). i < n) (sym h) l))
+          (write-next (map g all) before i (g (refusal 0 0)) (subst (λ (n : ℕ). i < n) (sym h ∙ sym values-length) l)
+          (subst (λ (n : ℕ). i < n) (sym h) l))
 
 module _ {side : ℕ} {f t : Float} {ks ps t₀ v₀ : List Float} {c₀ r₀ : List ℕ}
     (l : Lengths (length ks) (length ps) (length t₀) (length v₀) (length c₀) (length r₀))

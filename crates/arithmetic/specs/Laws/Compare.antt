@@ -105,8 +105,12 @@ not-le x y p q h =
     ∙ not-at-most (isSignMinus x) (isSignMinus y) (num x * den y) (num y * den x) (sym (rw (lt-is x y p q, eq-is x y p q) refl) ∙ h)
 
 at-most-not : (s t : Bool) (a b : ℕ) → below t b s a ≡ true → (below s a t b || level s a t b) ≡ false
-at-most-not false false a b h = let l = ltb-true b a h in rw (refuted (ltb a b) (λ u. omega (arith, ltb→lt a b u)), ne-eqb a b (λ (e : a ≡ b). omega arith))
-at-most-not true true a b h = let l = ltb-true a b h in rw (ne-eqb a b (λ (e : a ≡ b). omega arith), refuted (ltb b a) (λ u. omega (arith, ltb→lt b a u)))
+at-most-not false false a b h =
+    let l = ltb-true b a h in
+    rw (refuted (ltb a b) (λ u. omega (arith, ltb→lt a b u)), ne-eqb a b (λ (e : a ≡ b). omega arith))
+at-most-not true true a b h =
+    let l = ltb-true a b h in
+    rw (ne-eqb a b (λ (e : a ≡ b). omega arith), refuted (ltb b a) (λ u. omega (arith, ltb→lt b a u)))
 at-most-not false true zero zero h = absurd (false≢true h)
 at-most-not false true (suc a) b h = rw (eqb·suc-zero a) (and-false (eqb (suc a) b))
 at-most-not false true zero (suc b) h = rw (eqb·zero-suc b)

@@ -78,7 +78,8 @@ module _ (side : ℕ) (p f k t : Float) where
         go false false i j g = never (cc)
 
     -- left open by them
-    pub open-reply : (d : Float) → d ≡ intrinsic → none ≡ boundTests p intrinsic bound t → openReply f t p d k ≡ impliedBlackVolatilityInput side p f k t
+    pub open-reply : (d : Float) → d ≡ intrinsic → none ≡ boundTests p intrinsic bound t
+        → openReply f t p d k ≡ impliedBlackVolatilityInput side p f k t
     unfolding impliedBlackVolatilityInput fromQuote fromPrice orElse
     open-reply d u h = rw (u, e, ← h)
 

@@ -1,4 +1,4 @@
-"""What tools/quote and tools/price share: a side and four figures from words or from a CSV file, the program that answers, and its replies in words."""
+"""What tools/quote, tools/price and tools/ladder share: fields from words or from a CSV file, the program that answers, and its replies in words."""
 import csv
 import pathlib
 import re
@@ -8,6 +8,7 @@ import sys
 
 ROOT = pathlib.Path(__file__).resolve().parents[1]
 SIDES = {"call": 0, "put": 1}
+WORDS = {side: word for word, side in SIDES.items()}
 REFUSALS = {
     1: "the side is neither 0 (call) nor 1 (put)",
     2: "a figure is NaN or infinite",
@@ -19,7 +20,10 @@ REFUSALS = {
     8: "the normalised price is above its bound b_max",
     9: "no volatility was found: the search gave none, or a root that is not finite and above 0, or a value at the money that is NaN or below 0",
     11: "the volatility is below 0",
+    12: "the lengths of the six slices are not all equal",
+    13: "more than 500 strikes",
 }
+SOLVED = ["volatility", "total volatility", "evaluations"]  # the results of a quote
 
 
 def packed(records):
@@ -37,16 +41,37 @@ def meaning(refusal):
     return f"refusal {refusal}: {REFUSALS.get(refusal, 'no such number')}"
 
 
-class Entry:
-    """What is asked of a tool: `record` is the tool's name and that of a line of its files, `crate` the program that answers, `figures` are the
-    names of the four figures after the side, and `results` those of what is printed for a record."""
+def solved(refusal, found):
+    """A quote's reply with its results as text: `found` has the digits of total volatility and volatility, and the count; of a refusal the count alone."""
+    if refusal is not None:
+        return refusal, ["-", "-", found]
+    total, volatility, count = found
+    return None, [number(volatility), number(total), count]
 
-    def __init__(self, record, crate, figures, results):
-        self.record, self.crate, self.figures, self.results = record, crate, figures, results
+
+def numbered(lines, count, answer, ending):
+    """The replies in the lines of a program that numbers them: (None, groups of the pattern `answer`), or (refusal, its count). None where the
+    lines are not those of `count` records. `ending` says of a number of answers which lines come last."""
+    found = []
+    for i, line in enumerate(lines[:count], 1):
+        if match := re.fullmatch(f"{i} {answer}", line):
+            found.append((None, match.groups()))
+        elif match := re.fullmatch(rf"{i} R (\d+) (\d+)", line):
+            found.append((int(match[1]), match[2]))
+    answers = sum(refusal is None for refusal, _ in found)
+    return found if len(found) == count and lines[count:] == ending(answers) else None
+
+
+class Entry:
+    """What is asked of a tool: `tool` is its name, `record` that of a line of its files, `crate` the program that answers, `names` are those of a
+    record's fields, and `results` those of what is printed for it."""
+
+    def __init__(self, tool, record, crate, names, results):
+        self.tool, self.record, self.crate, self.names, self.results = tool, record, crate, names, results
         self.program = ROOT / "target/bin" / crate
 
     def stop(self, status, message):
-        print(f"{self.record}: {message}", file=sys.stderr)
+        print(f"{self.tool}: {message}", file=sys.stderr)
         sys.exit(status)
 
     def side(self, text, where):
@@ -68,10 +93,13 @@ class Entry:
             self.stop(2, f"{where}the {name} {word} is beyond what binary64 holds")
         return value
 
+    def field(self, name, text, where=""):
+        return self.side(text, where) if name == "side" else self.figure(name, text, where)
+
     def fields(self, words, where=""):
-        if len(words) != 5:
-            self.stop(2, f"{where}a {self.record} has 5 fields (side, {', '.join(self.figures)}), not {len(words)}")
-        return (self.side(words[0], where), *(self.figure(name, text, where) for name, text in zip(self.figures, words[1:])))
+        if len(words) != len(self.names):
+            self.stop(2, f"{where}a {self.record} has {len(self.names)} fields ({', '.join(self.names)}), not {len(words)}")
+        return tuple(self.field(name, text, where) for name, text in zip(self.names, words))
 
     def records_of(self, path):
         try:
@@ -82,7 +110,7 @@ class Entry:
             self.stop(2, f"{path}: {error.strerror}")
         except (UnicodeDecodeError, csv.Error) as error:
             self.stop(2, f"{path} is no CSV file: {error}")
-        if rows and rows[0][1][0].strip().lower() == "side":
+        if rows and rows[0][1][0].strip().lower() == self.names[0]:
             rows = rows[1:]
         if not rows:
             self.stop(2, f"{path} has no {self.record}s")
@@ -92,7 +120,7 @@ class Entry:
         if self.program.exists():
             return
         name, check = f"target/bin/{self.crate}", f"rt check {self.crate}"
-        print(f"{self.record}: {name} is missing; proving and building it ({check}), which takes minutes", file=sys.stderr)
+        print(f"{self.tool}: {name} is missing; proving and building it ({check}), which takes minutes", file=sys.stderr)
         # rt leaves a crate alone that its stamp says is proved, also where the program was removed
         (ROOT / "target/stamp" / self.crate).unlink(missing_ok=True)
         try:
@@ -102,22 +130,14 @@ class Entry:
         if status != 0 or not self.program.exists():
             self.stop(3, f"{check} did not build {name}, or its run failed")
 
-    def asked(self, given, count, answer, ending, whole):
-        """The program's replies to the bytes `given`, which hold `count` records: (None, groups of the pattern `answer`), or (refusal, its count).
-        `ending` says of a number of answers which lines come last."""
+    def asked(self, given, whole, read, *how):
+        """What `read`, with `how`, makes of the lines that the program prints for the bytes `given`; it has None for lines that do not answer `whole`."""
         try:
             ran = subprocess.run([str(self.program)], input=given, stdout=subprocess.PIPE)
         except OSError as error:
             self.stop(3, f"{self.program}: {error.strerror}")
-        lines = ran.stdout.decode("ascii", "replace").split("\n")
-        found = []
-        for i, line in enumerate(lines[:count], 1):
-            if match := re.fullmatch(f"{i} {answer}", line):
-                found.append((None, match.groups()))
-            elif match := re.fullmatch(rf"{i} R (\d+) (\d+)", line):
-                found.append((int(match[1]), match[2]))
-        answers = sum(refusal is None for refusal, _ in found)
-        if ran.returncode != 0 or len(found) != count or lines[count:] != ending(answers):
+        found = read(ran.stdout.decode("ascii", "replace").split("\n"), *how) if ran.returncode == 0 else None
+        if found is None:
             self.stop(3, f"{self.program} did not answer {whole}")
         return found
 
@@ -129,25 +149,30 @@ class Entry:
             if result != "-":
                 print(f"{name.ljust(width)}  {result}")
 
-    def table(self, records, replies):
-        rows = [["", "side", *self.figures, *self.results]]
+    def table(self, records, replies, tail=""):
+        rows = [["", *self.names, *self.results]]
         notes = [""]
         for i, (fields, (refusal, results)) in enumerate(zip(records, replies), 1):
-            what = {0: "call", 1: "put"}.get(fields[0], str(fields[0]))
-            rows.append([str(i), what, *(repr(x) for x in fields[1:]), *results])
+            given = [WORDS.get(x, str(x)) if name == "side" else repr(x) for name, x in zip(self.names, fields)]
+            rows.append([str(i), *given, *results])
             notes.append("" if refusal is None else meaning(refusal))
         widths = [max(len(row[k]) for row in rows) for k in range(len(rows[0]))]
         for row, note in zip(rows, notes):
             print("  ".join([field.rjust(width) for field, width in zip(row, widths)] + [note]).rstrip())
         answered = sum(refusal is None for refusal, _ in replies)
-        print(f"{len(records)} {self.record}s: {answered} answered, {len(records) - answered} refused")
+        print(f"{len(records)} {self.record}s: {answered} answered, {len(records) - answered} refused{tail}")
+
+    def words(self, usage):
+        """The command's words, where they do not ask for the usage."""
+        words = sys.argv[1:]
+        if words in (["-h"], ["--help"]):
+            sys.exit(print(usage))
+        return words
 
     def main(self, replies_to, usage):
         """`replies_to` has a pair for each of the records: None or the refusal, and the results as text, `-` for what a refusal leaves out."""
-        words = sys.argv[1:]
-        if words in (["-h"], ["--help"]):
-            print(usage)
-        elif len(words) == 5:
+        words = self.words(usage)
+        if len(words) == 5:
             given = self.fields(words)
             self.build()
             self.show(*replies_to([given])[0])

@@ -1,7 +1,8 @@
 -- Facts about the definitions, which the proofs here and the layers above cite.
--- Whole numbers and choices; values as fractions, bit patterns and signs:
+-- Whole numbers, choices and lists; values as fractions, bit patterns and signs:
 pub mod Numbers
 pub mod Choices
+pub mod Slices
 pub mod Ratio
 pub mod Times
 pub mod Patterns

@@ -7,11 +7,11 @@ use native.Mathlib.Numerals.{add-one}
 use native.Mathlib.Omega.{arith}
 use lib.Ieee.{Float}
 use lib.ListN.{length, take, getD, set, length-map, List·getD-map}
+use Rattle.arithmetic.specs.Laws.Slices.{written, write-next, written-length, written-all, take-all}
 use Rattle.explicit_black.specs.Quote.{Reply, refusal, impliedBlackVolatilityInput}
 use Rattle.ladder.specs.Ladder.{totalOf, volatilityOf, countOf, numberOf, takesRoot, rootsAfter, replies, trues, rootPlaces, solvedLadder}
 use Rattle.ladder.specs.declared.ladder.LadderReply.the-variants.{Solved}
 use Rattle.ladder.specs.Replies.{viewLadder}
-use Rattle.ladder.specs.Laws.Slices.{written, write-next, written-length, written-all, take-all}
 use Rattle.ladder.specs.Laws.Places.{replies-length, root-places-length, reply-at, root-at, trues-next, trues-few, Lengths}
 
 module _ (side : ℕ) (f t : Float) (ks ps : List Float) where
@@ -40,8 +40,8 @@ module _ (side : ℕ) (f t : Float) (ks ps : List Float) where
       values-length : length (map g all) ≡ length before
       values-length = length-map all g ∙ replies-length side f t ks ps e ∙ sym h
 
-      same-length : length now ≡ length before
-      same-length = ap length w ∙ written-length i (map g all) before values-length
+      same-length : i ≤ length ks → length now ≡ length before
+      same-length l = ap length w ∙ written-length (map g all) before i (omega (arith, values-length)) (omega arith)
 
       all-written : length ks ≤ i → now ≡ map g all
       all-written l = w ∙ written-all i (map g all) before values-length (subst (λ (n : ℕ). n ≤ i) (sym h ∙ sym values-length) l)
@@ -52,7 +52,7 @@ module _ (side : ℕ) (f t : Float) (ks ps : List Float) where
       next-written a b r v l q u =
           let value : getD (map g all) i (g (refusal 0 0)) ≡ v =
           List·getD-map g all i (refusal 0 0) ∙ ap g (reply-at side f t ks ps e i l a b (refusal 0 0) ∙ sym q) ∙ sym u in
-          rw (add-one i, w, ← value)
+          rw (w, ← value)
           (write-next (map g all) before i (g (refusal 0 0)) (subst (λ (n : ℕ). i < n) (sym h ∙ sym values-length) l)
           (subst (λ (n : ℕ). i < n) (sym h) l))
 
@@ -68,16 +68,16 @@ module _ {side : ℕ} {f t : Float} {ks ps t₀ v₀ : List Float} {c₀ r₀ : 
 
   -- the four slices keep their lengths
   pub totals-kept : length ts ≡ length t₀
-  totals-kept = same-length side f t ks ps e totalOf i t₀ ts (l .totals-equal) (s .totals)
+  totals-kept = same-length side f t ks ps e totalOf i t₀ ts (l .totals-equal) (s .totals) (s .within)
 
   pub volatilities-kept : length vs ≡ length v₀
-  volatilities-kept = same-length side f t ks ps e volatilityOf i v₀ vs (l .volatilities-equal) (s .volatilities)
+  volatilities-kept = same-length side f t ks ps e volatilityOf i v₀ vs (l .volatilities-equal) (s .volatilities) (s .within)
 
   pub counts-kept : length cs ≡ length c₀
-  counts-kept = same-length side f t ks ps e countOf i c₀ cs (l .counts-equal) (s .counts)
+  counts-kept = same-length side f t ks ps e countOf i c₀ cs (l .counts-equal) (s .counts) (s .within)
 
   pub refusals-kept : length rs ≡ length r₀
-  refusals-kept = same-length side f t ks ps e numberOf i r₀ rs (l .refusals-equal) (s .refusals)
+  refusals-kept = same-length side f t ks ps e numberOf i r₀ rs (l .refusals-equal) (s .refusals) (s .within)
 
   -- the reply, which was found for equal figures, and the count after it
   pub one-more : {side' : ℕ} {f' t' : Float} → side' ≡ side → f' ≡ f → t' ≡ t

@@ -10,7 +10,7 @@ use borrow.Author.Tests.{lt-leb, le-leb, ltb-true, ltb-false}
 use lib.Dec.{ltb, lit<, lit≤}
 use lib.Ieee.{Float, binary64, toBits}
 use lib.ListN.{length, take, drop, set, getD, length-append, length-map}
-use lib.Seq.{take-suc-set, take-suc, take-all, drop-cons, append-snoc, set-at, length-front, length-take-le}
+use lib.Seq.{take-suc-set, take-suc, take-all, length-take-le}
 use Rattle.explicit_black.specs.declared.quote.Reply.{Reply as CodeReply}
 use Rattle.explicit_black.specs.declared.quote.Reply.the-variants.{Answer, Refusal}
 use Rattle.explicit_black.specs.Replies.{viewReply}
@@ -115,17 +115,6 @@ unfolding bytesPlaced bufferAfter
 with-room l n buffer after e h p =
     let g : length (written l) ≤ length buffer = omega arith in
     rw (le-leb (length (written l)) (length buffer) g) (ap Bytes e, p ∙ rw (e, take-written l))
-
--- a buffer whose first bytes are replaced keeps its length, and one byte more is replaced
-pub kept-length : (s d : List ℕ) (i : ℕ) → i ≤ length s → i ≤ length d → length (take i s ++ drop i d) ≡ length d
-kept-length s d i h g = length-front d (take i s) i (length-take-le i s h ∙ sym (length-take-le i d g))
-
-pub copied : (s d : List ℕ) (i : ℕ) → i < length s → i < length d
-    → set (take i s ++ drop i d) i (getD s i 0) ≡ take (i + 1) s ++ drop (i + 1) d
-copied s d i h g =
-    rw (add-one i, take-suc s i 0, drop-cons d i 0)
-    (set-at (take i s) (getD d i 0) (drop (suc i) d) (getD s i 0) i (length-take-le i s (omega arith))
-    ∙ sym (append-snoc (take i s) (getD s i 0) (drop (suc i) d)))
 
 -- ---- how many digits a number has: `Fewest` of the kit's `io` says the same as `places`
 less-one : (k : ℕ) → suc k - 1 ≡ k

@@ -10,6 +10,7 @@ use lib.IntN.{ℤ}
 use lib.Ieee.{Float}
 use lib.ListN.{length, getD, length-map, List·getD-map}
 use Rattle.arithmetic.specs.Operations.{bits, plusZero}
+use Rattle.arithmetic.specs.Laws.Slices.{take-all}
 use Rattle.explicit_black.specs.Counted.{Option, some, none, Counted}
 use Rattle.explicit_black.specs.Quote.{Outcome, total, refused, Reply, answer, refusal, firstRefusal, intrinsicValue, priceBound, boundTests}
 use Rattle.explicit_black.specs.Quote.{replyOf, impliedBlackVolatilityInput}
@@ -19,7 +20,6 @@ use Rattle.explicit_black.specs.Laws.Demand.{inputAtBits, same-side, other-side
 use Rattle.ladder.specs.Ladder.{totalOf, volatilityOf, countOf, numberOf, takesRoot, replies, trues, rootPlaces, strikeRoots}
 use Rattle.ladder.specs.Ladder.{Ladder, lengthRefusal, solvedLadder, ladder}
 use Rattle.ladder.specs.Demand.{Call, called, refusalOf, strikeAt, priceAt, Compared, comparedAt}
-use Rattle.ladder.specs.Laws.Slices.{take-all}
 use Rattle.ladder.specs.Laws.Places.{early-reply, early-root, decided-reply, decided-root, open-root, reply-at, root-places-length, trues-few, accepted}
 
 -- ---- a quote's reply, as a place shows it

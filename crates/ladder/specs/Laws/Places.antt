@@ -15,6 +15,7 @@ use Rattle.arithmetic.specs.Operations.{_⊗_, plusZero}
 use Rattle.arithmetic.specs.Sqrt.{sqrt}
 use Rattle.arithmetic.specs.Laws.Choices.{in-both, refuted, never}
 use Rattle.arithmetic.specs.Laws.Compare.{lt-is-not-le}
+use Rattle.arithmetic.specs.Laws.Slices.{zip-length, zip-at}
 use Rattle.bs_option_price.specs.BsOptionPrice.{negativeAbsLogMoneyness}
 use Rattle.explicit_black.specs.Counted.{some, none, orElse}
 use Rattle.explicit_black.specs.Quote.{Outcome, total, Reply, answer, refusal, volatilityOver, replyOf, replyOver}
@@ -23,7 +24,6 @@ use Rattle.explicit_black.specs.Quote.{normalisedTimeValue, fromTimeValue, from
 use Rattle.explicit_black.specs.Laws.Quote.{passed}
 use Rattle.ladder.specs.Ladder.{takesRoot, rootsAfter, replies, trues, rootPlaces, areEqual, lengthRefusal}
 use Rattle.ladder.specs.Internal.{openReply}
-use Rattle.ladder.specs.Laws.Slices.{zip-length, zip-at}
 
 module _ (side : ℕ) (p f k t : Float) where
   abbrev intrinsic : Float

@@ -1,15 +1,14 @@
 -- `text::copy` meets its contract. Invariant: the first i bytes are copied, and the others are as before. Measure: how many are left. Assumes nothing.
 use mathlib.Core.Path.{_≡_, refl, ap, _∙_}
-use mathlib.Core.List.{_++_}
 use Prim.Native.Nat.{_≤_, _-_}
 use native.Mathlib.Omega.{arith}
-use lib.ListN.{length, take, drop}
-use Rattle.xdr_sheet.proofs.Lines.{kept-length, copied}
+use lib.ListN.{length}
+use Rattle.arithmetic.specs.Laws.Slices.{written, write-next, written-length}
 use Rattle.xdr_sheet.proofs.text.copy.Statement.{statement}
 use Rattle.xdr_sheet.proofs.text.copy.Tie as tie
 
 abbrev Inv-loop : tie.InvT-loop
-Inv-loop count out₀ bytes i₀ out i = (i ≤ count) × (out ≡ take i bytes ++ drop i out₀)
+Inv-loop count out₀ bytes i₀ out i = (i ≤ count) × (out ≡ written i bytes out₀)
 
 abbrev μ-loop : tie.MeasureT-loop
 μ-loop count out₀ bytes i₀ out i = count - i
@@ -18,7 +17,7 @@ abbrev μ-loop : tie.MeasureT-loop
 kept : (l : tie.At-loop Inv-loop μ-loop) → length (l .loop .out) ≡ length (l .before .args .out .now)
 kept l =
     let a = l .before .args in
-    ap length (l .loop .inv .1) ∙ kept-length (a .t1) (a .out .now) (l .loop .i) (omega (arith, l .before .good)) (omega arith)
+    ap length (l .loop .inv .1) ∙ written-length (a .t1) (a .out .now) (l .loop .i) (omega (arith, l .before .good)) (omega arith)
 
 loop-holds : tie.Need-loop-holds Inv-loop μ-loop
 loop-holds c = (omega arith, refl)
@@ -30,7 +29,7 @@ loop-again : tie.Need-loop-again Inv-loop μ-loop
 loop-again c =
     let l = c .before in
     let a = l .before .args in
-    (omega arith, rw (l .loop .inv .1) (copied (a .t1) (a .out .now) (l .loop .i) (omega (arith, l .before .good)) (omega arith)))
+    (omega arith, rw (l .loop .inv .1) (write-next (a .t1) (a .out .now) (l .loop .i) 0 (omega (arith, l .before .good)) (omega arith)))
 
 same-length : tie.Need-same-length Inv-loop μ-loop
 same-length c = kept (c .before)

@@ -1,8 +1,9 @@
 -- A slice that is written place by place, and two lists taken place by place. Assumes nothing.
 use mathlib.Core.Path.{_≡_, refl, ap}
 use mathlib.Core.List.{List, [], _∷_, _++_, zipWith}
-use Prim.Native.Nat.{ℕ, zero, suc, _≤_, _<_}
+use Prim.Native.Nat.{ℕ, zero, suc, _+_, _≤_, _<_}
 use native.Mathlib.Nat.{not-suc-le-zero, le-of-suc-le-suc}
+use native.Mathlib.Numerals.{add-one}
 use native.Mathlib.Omega.{arith}
 use lib.ListN.{length, take, drop, getD, set}
 
@@ -11,19 +12,22 @@ module _ {A : Type 0} where
   abbrev pub written : ℕ → List A → List A → List A
   written i values before = take i values ++ drop i before
 
-  pub write-next : (values before : List A) (i : ℕ) (d : A) → i < length values → i < length before
+  next : (values before : List A) (i : ℕ) (d : A) → i < length values → i < length before
       → set (written i values before) i (getD values i d) ≡ written (suc i) values before
-  write-next [] before i d h g = absurd (not-suc-le-zero h)
-  write-next (x ∷ xs) [] i d h g = absurd (not-suc-le-zero g)
-  write-next (x ∷ xs) (y ∷ ys) zero d h g = refl
-  write-next (x ∷ xs) (y ∷ ys) (suc i) d h g = ap (λ (l : List A). x ∷ l) (write-next xs ys i d (le-of-suc-le-suc h) (le-of-suc-le-suc g))
+  next [] before i d h g = absurd (not-suc-le-zero h)
+  next (x ∷ xs) [] i d h g = absurd (not-suc-le-zero g)
+  next (x ∷ xs) (y ∷ ys) zero d h g = refl
+  next (x ∷ xs) (y ∷ ys) (suc i) d h g = ap (λ (l : List A). x ∷ l) (next xs ys i d (le-of-suc-le-suc h) (le-of-suc-le-suc g))
 
-  pub written-length : (i : ℕ) (values before : List A) → length values ≡ length before → length (written i values before) ≡ length before
-  written-length zero values before e = refl
-  written-length (suc i) [] [] e = refl
-  written-length (suc i) [] (y ∷ ys) e = absurd (omega arith)
-  written-length (suc i) (x ∷ xs) [] e = absurd (omega arith)
-  written-length (suc i) (x ∷ xs) (y ∷ ys) e = ap suc (written-length i xs ys (omega arith))
+  pub write-next : (values before : List A) (i : ℕ) (d : A) → i < length values → i < length before
+      → set (written i values before) i (getD values i d) ≡ written (i + 1) values before
+  write-next values before i d h g = rw (add-one i) (next values before i d h g)
+
+  pub written-length : (values before : List A) (i : ℕ) → i ≤ length values → i ≤ length before → length (written i values before) ≡ length before
+  written-length values before zero h g = refl
+  written-length [] before (suc i) h g = absurd (not-suc-le-zero h)
+  written-length (x ∷ xs) [] (suc i) h g = absurd (not-suc-le-zero g)
+  written-length (x ∷ xs) (y ∷ ys) (suc i) h g = ap suc (written-length xs ys i (le-of-suc-le-suc h) (le-of-suc-le-suc g))
 
   pub take-all : (i : ℕ) (values : List A) → length values ≤ i → take i values ≡ values
   take-all zero [] h = refl

@@ -6,8 +6,9 @@ use Prim.Native.Nat.{ℕ, _+_, _≤_, _<_, zero-le}
 use native.Mathlib.Numerals.{add-one}
 use native.Mathlib.Omega.{arith}
 use lib.Ieee.{Float}
+use lib.Seq.{take-all}
 use lib.ListN.{length, take, getD, set, length-map, List·getD-map}
-use Rattle.arithmetic.specs.Laws.Slices.{written, write-next, written-length, written-all, take-all}
+use Rattle.arithmetic.specs.Laws.Slices.{written, write-next, written-length, written-all}
 use Rattle.explicit_black.specs.Quote.{Reply, refusal, impliedBlackVolatilityInput}
 use Rattle.ladder.specs.Ladder.{totalOf, volatilityOf, countOf, numberOf, takesRoot, rootsAfter, replies, trues, rootPlaces, solvedLadder}
 use Rattle.ladder.specs.declared.ladder.LadderReply.the-variants.{Solved}

@@ -9,8 +9,8 @@ use native.Mathlib.Omega.{arith}
 use lib.IntN.{ℤ}
 use lib.Ieee.{Float}
 use lib.ListN.{length, getD, length-map, List·getD-map}
+use lib.Seq.{take-all}
 use Rattle.arithmetic.specs.Operations.{bits, plusZero}
-use Rattle.arithmetic.specs.Laws.Slices.{take-all}
 use Rattle.explicit_black.specs.Counted.{Option, some, none, Counted}
 use Rattle.explicit_black.specs.Quote.{Outcome, total, refused, Reply, answer, refusal, firstRefusal, intrinsicValue, priceBound, boundTests}
 use Rattle.explicit_black.specs.Quote.{replyOf, impliedBlackVolatilityInput}

@@ -14,8 +14,8 @@
    Where a result is NaN, only that is promised. On x86-64 it is 0x7FF8000000000000, 0xFFF8000000000000, or an argument's pattern, whose sign
    may be turned and whose quiet bit may be set: it may be signalling. No total, no volatility and no price is NaN.
 
-   Memory. A pointer to numbers is aligned and not null; bytes need no alignment. A length is 64 bits wide on every processor. Where it is 0
-   nothing is read or written, and the pointer may be null. What a call writes to overlaps nothing else that the call is given.
+   Memory. A pointer to numbers is aligned, bytes need no alignment, and a pointer is not null unless a length of 0 comes with it; then nothing
+   is read or written there. A length is 64 bits wide on every processor. What a call writes to overlaps nothing else that the call is given.
 
    Linking. The archive needs memcpy and nothing else. The same code compiled for another processor may need memset, memmove and helpers of
    the compiler: for 64-bit integers on 32-bit ones (__aeabi_ul2d, __aeabi_uldivmod, __floatundidf), and where there is no unit for doubles

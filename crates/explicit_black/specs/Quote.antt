@@ -29,6 +29,7 @@ pub data Reply : Type 0 where
 unfoldable pub volatilityOver : Float → Float → Float → Float
 volatilityOver time root v = cond (eq time plusZero) plusZero (v ⊘ root)
 
+-- total / √time; at time zero 0
 abbrev pub volatility : Float → Float → Float
 volatility time v = volatilityOver time (sqrt time) v
 

@@ -13,8 +13,14 @@ use Rattle.explicit_black.specs.Quote.{volatilityOver, firstRefusal, fromTimeVa
 use Rattle.explicit_black.specs.Laws.Demand.{callPrice, callForward, callStrike, putPrice, putForward, putStrike, timeOne, comparable-call, comparable-put}
 use Rattle.explicit_black.specs.Laws.Powers.{four-times}
 use Rattle.ladder.specs.Ladder.{solved, refused, replies, trues, rootPlaces, takesRoot, lengthRefusal, solvedLadder, ladder}
-use Rattle.ladder.specs.Demand.{Call, called, comparedAt}
+use Rattle.ladder.specs.Demand.{Inputs, handedBack, comparedAt}
 use Rattle.ladder.specs.Laws.Ladder.{other-side-places}
+
+abbrev minusZero : Float
+minusZero = bits 0x8000_0000_0000_0000
+
+abbrev five : Float
+five = bits 0x4014_0000_0000_0000
 
 abbrev minusOne : Float
 minusOne = bits 0xBFF0_0000_0000_0000
@@ -50,7 +56,22 @@ unfolding ladder lengthRefusal solvedLadder replies rootPlaces takesRoot trues z
     fromTimeValue volatilityOver sqrt max add sub mul div lt le eq isNan ofBits
 four-calls = refl
 
--- at time zero no root is taken: a price that is the intrinsic value, and one that is not
+-- Puts there. A price below the intrinsic value takes the root and is refused with 7 after it; a price of minus zero has the volatility 0. A strike of minus
+-- zero is refused with 3, and a price at its bound, the strike, has an infinite volatility: they take none.
+pub four-puts : ladder 1 hundred one (hundredTwenty ∷ hundred ∷ minusZero ∷ hundredTwenty ∷ []) (five ∷ minusZero ∷ one ∷ hundredTwenty ∷ [])
+    old old oldNumbers oldNumbers
+    ≡ record {
+      result = solved 2;
+      totals = plusZero ∷ plusZero ∷ plusZero ∷ infinity ∷ [];
+      volatilities = plusZero ∷ plusZero ∷ plusZero ∷ infinity ∷ [];
+      counts = 0 ∷ 0 ∷ 0 ∷ 0 ∷ [];
+      refusals = 7 ∷ 0 ∷ 3 ∷ 0 ∷ [];
+    }
+unfolding ladder lengthRefusal solvedLadder replies rootPlaces takesRoot trues zipWith impliedBlackVolatilityInput fromQuote firstRefusal fromPrice
+    fromTimeValue volatilityOver sqrt max add sub mul div lt le eq isNan ofBits
+four-puts = refl
+
+-- at time zero, of either sign, no root is taken: a price that is the intrinsic value, and one that is not
 pub expired : ladder 0 hundredTwenty plusZero (hundred ∷ hundred ∷ []) (twenty ∷ one ∷ [])
     (one ∷ one ∷ []) (one ∷ one ∷ []) (7 ∷ 7 ∷ []) (7 ∷ 7 ∷ [])
     ≡ record {
@@ -63,6 +84,12 @@ pub expired : ladder 0 hundredTwenty plusZero (hundred ∷ hundred ∷ []) (twen
 unfolding ladder lengthRefusal solvedLadder replies rootPlaces takesRoot trues zipWith impliedBlackVolatilityInput fromQuote firstRefusal fromPrice
     fromTimeValue volatilityOver sqrt max add sub mul div lt le eq isNan ofBits
 expired = refl
+
+pub expired-minus : ladder 0 hundredTwenty minusZero (hundred ∷ []) (twenty ∷ []) (one ∷ []) (one ∷ []) (7 ∷ []) (7 ∷ [])
+    ≡ record { result = solved 0; totals = plusZero ∷ []; volatilities = plusZero ∷ []; counts = 0 ∷ []; refusals = 0 ∷ [] }
+unfolding ladder lengthRefusal solvedLadder replies rootPlaces takesRoot trues zipWith impliedBlackVolatilityInput fromQuote firstRefusal fromPrice
+    fromTimeValue volatilityOver sqrt max add sub mul div lt le eq isNan ofBits
+expired-minus = refl
 
 -- a ladder of no places
 pub empty : ladder 2 nan nan [] [] [] [] [] [] ≡ record { result = solved 0; totals = []; volatilities = []; counts = []; refusals = [] }
@@ -80,14 +107,14 @@ pub record Tests : Type 0 where
   pub five-hundred : lengthRefusal 500 500 500 500 500 500 ≡ 0
   pub one-more : lengthRefusal 501 501 501 501 501 501 ≡ 13
   pub unequal-first : lengthRefusal 501 501 501 501 501 500 ≡ 12
-  pub few-strikes : lengthRefusal 0 0 0 0 1 0 ≡ 12
+  pub no-strikes : lengthRefusal 0 0 0 0 1 0 ≡ 12
 
 pub tests : Tests
 unfolding lengthRefusal
-tests = record { five-hundred = refl; one-more = refl; unequal-first = refl; few-strikes = refl }
+tests = record { five-hundred = refl; one-more = refl; unequal-first = refl; no-strikes = refl }
 
 -- ---- the call and the put of REQUIREMENTS 12.2, at the first place of one ladder and the second of another
-abbrev calls : Call
+abbrev calls : Inputs
 calls = record {
   side = 0;
   forward = callForward;
@@ -100,7 +127,7 @@ calls = record {
   refusals = 0 ∷ [];
 }
 
-abbrev puts : Call
+abbrev puts : Inputs
 puts = record {
   side = 1;
   forward = putForward;
@@ -113,7 +140,7 @@ puts = record {
   refusals = 0 ∷ 0 ∷ [];
 }
 
-pub ladders-agree : comparedAt (called puts) 1 ≡ comparedAt (called calls) 0
+pub ladders-agree : comparedAt (handedBack puts) 1 ≡ comparedAt (handedBack calls) 0
 unfolding lengthRefusal ofBits lt
 ladders-agree =
     other-side-places (pos 1) calls puts refl refl 0 1 (lit< tt) (lit< tt) comparable-call comparable-put (inr (tt, tt, tt, tt))

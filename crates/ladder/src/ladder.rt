@@ -45,7 +45,8 @@ fn length_refusal(
     if strikes > MAX_STRIKES { 13 } else { 0 }
 }
 
-// Solves each place and writes its four values.
+// Solves each place and writes its four values. The roots of forward and time are taken once, before the first place, which
+// the contract cannot say.
 fn solve_places(
     side: u32,
     forward: f64,

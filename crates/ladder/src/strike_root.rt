@@ -4,7 +4,7 @@ ghost use mathlib.Core.Path.{_≡_};
 ghost use Prim.Native.Nat.{_+_, _<_};
 ghost use Rattle.arithmetic.specs.Sqrt.{sqrt};
 
-// How many strike roots were taken. Its field is private: `strike_root` alone makes one that has counted.
+// How many strike roots were taken. Its field is private, so that no other code makes one but by `none` and `strike_root`.
 pub struct StrikeRoots {
     taken: u64,
 }

@@ -27,25 +27,25 @@ use Rattle.explicit_black.specs.Quote.{fromNormalisedPrice, impliedBlack
 use Rattle.explicit_black.specs.Quote.{normalisedTimeValue, fromTimeValue, fromPrice, fromQuote, impliedBlackVolatilityInput}
 use Rattle.explicit_black.specs.Demand.{compared}
 use Rattle.explicit_black.specs.Laws.Tests.{from-price-is}
-use Rattle.explicit_black.specs.Laws.Kinds.{Kind, normalised-kind, from-time-value-kind, from-price-kind}
+use Rattle.explicit_black.specs.Laws.Kinds.{Kind, lowered, normalised-kind, from-time-value-kind, from-price-kind}
 use Rattle.explicit_black.specs.Laws.Kinds.{total-at-once, refused-at-once, total-at-root, refused-no-root}
 use Rattle.explicit_black.specs.Laws.ZeroPrice.{bound-above, or-right}
 
 -- ---- what holds of an outcome of each kind
-kind-count : (c : Counted Outcome) → Kind c → c .count ≤ 2263
+kind-count : {least : ℕ} (c : Counted Outcome) → Kind least c → c .count ≤ 2263
 kind-count c (total-at-once v e n F) = rw e (lit≤ tt)
 kind-count c (refused-at-once m e l h) = rw e (lit≤ tt)
 kind-count c (total-at-root x e p F h) = h
 kind-count c (refused-no-root e h) = h
 
-kind-refused : (c : Counted Outcome) (m : ℕ) → Kind c → c .result ≡ refused m → (5 ≤ m) × (m ≤ 9) × (m ≤ 8 → c .count ≡ 0)
-kind-refused c m (total-at-once v e n F) q = never (cc)
-kind-refused c m (refused-at-once k e l h) q = let i : k ≡ m = cc in (omega arith, omega arith, λ _. ap (λ d. d .count) e)
-kind-refused c m (total-at-root x e p F h) q = never (cc)
-kind-refused c m (refused-no-root e h) q = let i : 9 ≡ m = cc in (omega arith, omega arith, λ k. absurd (omega arith))
+kind-refused : {least : ℕ} (c : Counted Outcome) (m : ℕ) → least ≤ 9 → Kind least c → c .result ≡ refused m → (least ≤ m) × (m ≤ 9) × (m ≤ 8 → c .count ≡ 0)
+kind-refused c m g (total-at-once v e n F) q = never (cc)
+kind-refused c m g (refused-at-once k e l h) q = let i : k ≡ m = cc in (omega arith, omega arith, λ _. ap (λ d. d .count) e)
+kind-refused c m g (total-at-root x e p F h) q = never (cc)
+kind-refused c m g (refused-no-root e h) q = let i : 9 ≡ m = cc in (omega arith, omega arith, λ k. absurd (omega arith))
 
 -- a total of 0 or infinity is not that of a root x: 2 / √x is neither
-kind-ends : (c : Counted Outcome) (v : Float) → Kind c → c .result ≡ total v → (eq v plusZero ≡ true) ⊎ (isFinite v ≡ false) → c .count ≡ 0
+kind-ends : {least : ℕ} (c : Counted Outcome) (v : Float) → Kind least c → c .result ≡ total v → (eq v plusZero ≡ true) ⊎ (isFinite v ≡ false) → c .count ≡ 0
 unfolding le
 kind-ends c v (total-at-once w e n F) q z = ap (λ d. d .count) e
 kind-ends c v (refused-at-once k e l h) q z = never (cc)
@@ -82,7 +82,8 @@ volatility-number t v p l F n = by-test IsNumber (eq t plusZero) (λ e. zero-num
     quotient : T (positive t) → IsNumber (v ⊘ sqrt t)
     quotient q = (div-no-nan binary64 v (sqrt t) n (sqrt-positive t q F), div-fits binary64 v (sqrt t))
 
-kind-numbers : (t : Float) (c : Counted Outcome) → isFinite t ≡ true → lt t plusZero ≡ false → T (fits binary64 t) → Kind c → FiguresAreNumbers (reply t c)
+kind-numbers : {least : ℕ} (t : Float) (c : Counted Outcome) → isFinite t ≡ true → lt t plusZero ≡ false → T (fits binary64 t) → Kind least c
+    → FiguresAreNumbers (reply t c)
 kind-numbers t c p l F (total-at-once v e n f) = rw e (let w = volatility-number t v p l F n in (n, f, w .0, w .1))
 kind-numbers t c p l F (refused-at-once m e i h) = rw e tt
 kind-numbers t c p l F (refused-no-root e h) = rw e tt
@@ -101,11 +102,11 @@ pub record Facts (c : Counted Outcome) : Type 0 where
   -- an answer whose total is 0 or infinite has count 0
   pub ends : (v : Float) → c .result ≡ total v → (eq v plusZero ≡ true) ⊎ (isFinite v ≡ false) → c .count ≡ 0
 
-kind-facts : (c : Counted Outcome) → Kind c → Facts c
+kind-facts : (c : Counted Outcome) → Kind 5 c → Facts c
 kind-facts c k = record {
   few = kind-count c k;
-  numbered = λ m e. let q = kind-refused c m k e in (omega arith, omega arith);
-  free = λ m e h. kind-refused c m k e .2 h;
+  numbered = λ m e. let q = kind-refused c m (lit≤ tt) k e in (omega arith, omega arith);
+  free = λ m e h. kind-refused c m (lit≤ tt) k e .2 h;
   ends = λ v e z. kind-ends c v k e z;
 }
 
@@ -118,7 +119,7 @@ refused-facts m l h = record {
   ends = λ v e z. never (cc);
 }
 
-compared-reply : (t : Float) (c : Counted Outcome) → compared (reply t c) ≡ c
+pub compared-reply : (t : Float) (c : Counted Outcome) → compared (reply t c) ≡ c
 compared-reply t c = go (c .result)
   where
     go : (r : Outcome) → compared (replyOf t (sqrt t) r (c .count)) ≡ record { result = r; count = c .count }
@@ -128,6 +129,10 @@ compared-reply t c = go (c .result)
 pub time-value-count : (x v : Float) → fromTimeValue x v .count ≤ 2263
 time-value-count x v = kind-count (fromTimeValue x v) (from-time-value-kind x v)
 
+-- past tests 1 to 6 no refusal is one of 1 to 6
+pub time-value-refused : (x v : Float) (m : ℕ) → fromTimeValue x v .result ≡ refused m → 7 ≤ m
+time-value-refused x v m e = kind-refused (fromTimeValue x v) m (lit≤ tt) (from-time-value-kind x v) e .0
+
 -- ---- of the normalised entry
 pub normalised-count : (x p : Float) → fromNormalisedPrice x p .count ≤ 2263
 normalised-count x p = kind-count (fromNormalisedPrice x p) (normalised-kind x p)
@@ -136,7 +141,8 @@ pub normalised-facts : (x p : Float) → Facts (compared (impliedBlackVolatility
 unfolding impliedBlackVolatilityNormalised
 normalised-facts x p =
     subst Facts (sym (compared-reply one _))
-    (in-both Facts (isFinite x && isFinite p) (kind-facts (fromNormalisedPrice x p) (normalised-kind x p)) (refused-facts 2 (lit≤ tt) (lit≤ tt)))
+    (in-both Facts (isFinite x && isFinite p) (kind-facts (fromNormalisedPrice x p) (lowered 5 7 _ (lit≤ tt) (normalised-kind x p)))
+    (refused-facts 2 (lit≤ tt) (lit≤ tt)))
 
 pub normalised-numbers : (x p : Float) → FiguresAreNumbers (impliedBlackVolatilityNormalised x p)
 unfolding impliedBlackVolatilityNormalised lt ofBits fits
@@ -177,7 +183,7 @@ abbrev firstOf : Bool → Bool → Bool → Bool → ℕ
 firstOf a b c d = cond (not a) 1 (cond (not b) 2 (cond (not c) 3 (cond d 4 0)))
 
 module _ (side : ℕ) (p f k t : Float) where
-  first-refusal-le : firstRefusal side p f k t ≤ 4
+  pub first-refusal-le : firstRefusal side p f k t ≤ 4
   unfolding firstRefusal
   first-refusal-le = go (eqb side 0 || eqb side 1) (isFinite p && isFinite f && isFinite k && isFinite t) (lt plusZero f && lt plusZero k) (lt t plusZero)
     where
@@ -220,7 +226,7 @@ module _ (side : ℕ) (p f k t : Float) where
       side-le (suc (suc n)) e = absurd (true≢false (sym e ∙ no-side (suc (suc n)) (omega arith)))
 
   -- what holds of outcomes of each kind, and of the refusals of tests 1 to 4, holds of every quote's outcome
-  by-first-refusal : (P : Counted Outcome → Type 0) → (firstRefusal side p f k t ≡ 0 → (c : Counted Outcome) → Kind c → P c)
+  by-first-refusal : (P : Counted Outcome → Type 0) → (firstRefusal side p f k t ≡ 0 → (c : Counted Outcome) → Kind 5 c → P c)
       → ((m : ℕ) → 1 ≤ m → m ≤ 4 → P (atOnce (refused m))) → P (fromQuote side p f k t)
   unfolding fromQuote
   by-first-refusal P past stopped = go (firstRefusal side p f k t) first-refusal-le past
@@ -228,7 +234,7 @@ module _ (side : ℕ) (p f k t : Float) where
       c : Counted Outcome
       c = fromPrice p (intrinsicValue side f k) (priceBound side f k) (sqrt f ⊗ sqrt k) (negativeAbsLogMoneyness f k) t
 
-      go : (n : ℕ) → n ≤ 4 → (n ≡ 0 → (c : Counted Outcome) → Kind c → P c) → P (cond (eqb n 0) c (atOnce (refused n)))
+      go : (n : ℕ) → n ≤ 4 → (n ≡ 0 → (c : Counted Outcome) → Kind 5 c → P c) → P (cond (eqb n 0) c (atOnce (refused n)))
       go zero h q = q refl c (from-price-kind p _ _ _ _ t)
       go (suc n) h q = rw (eqb·suc-zero n) (stopped (suc n) (omega arith) h)
 
@@ -266,7 +272,7 @@ domain-passes side p f k t h =
 pub domain-refusals : (side : ℕ) (p f k t : Float) → Domain side p f k t → (m : ℕ)
     → compared (impliedBlackVolatilityInput side p f k t) .result ≡ refused m → (5 ≤ m) × (m ≤ 9)
 domain-refusals side p f k t h m e =
-    let q = kind-refused _ m (from-price-kind p _ _ _ _ t) (sym (ap (λ d. d .result) (compared-input side p f k t ∙ is)) ∙ e) in
+    let q = kind-refused _ m (lit≤ tt) (from-price-kind p _ _ _ _ t) (sym (ap (λ d. d .result) (compared-input side p f k t ∙ is)) ∙ e) in
     (q .0, q .1)
   where
     is : fromQuote side p f k t

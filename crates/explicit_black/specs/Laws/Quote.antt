@@ -38,14 +38,16 @@ kind-count c (refused-at-once m e l h) = rw e (lit≤ tt)
 kind-count c (total-at-root x e p F h) = h
 kind-count c (refused-no-root e h) = h
 
-kind-refused : {least : ℕ} (c : Counted Outcome) (m : ℕ) → least ≤ 9 → Kind least c → c .result ≡ refused m → (least ≤ m) × (m ≤ 9) × (m ≤ 8 → c .count ≡ 0)
+kind-refused : {least : ℕ} (c : Counted Outcome) (m : ℕ) → least ≤ 9 → Kind least c → c .result ≡ refused m
+    → (least ≤ m) × (m ≤ 9) × (m ≤ 8 → c .count ≡ 0)
 kind-refused c m g (total-at-once v e n F) q = never (cc)
 kind-refused c m g (refused-at-once k e l h) q = let i : k ≡ m = cc in (omega arith, omega arith, λ _. ap (λ d. d .count) e)
 kind-refused c m g (total-at-root x e p F h) q = never (cc)
 kind-refused c m g (refused-no-root e h) q = let i : 9 ≡ m = cc in (omega arith, omega arith, λ k. absurd (omega arith))
 
 -- a total of 0 or infinity is not that of a root x: 2 / √x is neither
-kind-ends : {least : ℕ} (c : Counted Outcome) (v : Float) → Kind least c → c .result ≡ total v → (eq v plusZero ≡ true) ⊎ (isFinite v ≡ false) → c .count ≡ 0
+kind-ends : {least : ℕ} (c : Counted Outcome) (v : Float) → Kind least c → c .result ≡ total v → (eq v plusZero ≡ true) ⊎ (isFinite v ≡ false)
+    → c .count ≡ 0
 unfolding le
 kind-ends c v (total-at-once w e n F) q z = ap (λ d. d .count) e
 kind-ends c v (refused-at-once k e l h) q z = never (cc)

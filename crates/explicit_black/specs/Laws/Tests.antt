@@ -27,7 +27,8 @@ pub bound-tests-refused : (p d b t : Float) (m : ℕ) → some (refused m) ≡ b
 unfolding boundTests
 bound-tests-refused p d b t m h = go (eq t plusZero) (le b p) (eq p (max d plusZero)) (eq p b) h
   where
-    go : (u v x y : Bool) → some (refused m) ≡ cond u (some (cond x (total plusZero) (refused 5))) (cond v (some (cond y (total infinity) (refused 6))) none)
+    go : (u v x y : Bool)
+        → some (refused m) ≡ cond u (some (cond x (total plusZero) (refused 5))) (cond v (some (cond y (total infinity) (refused 6))) none)
         → (5 ≤ m) × (m ≤ 6)
     go true v true y e = never (cc)
     go true v false y e = let i : m ≡ 5 = cc in (omega arith, omega arith)

@@ -94,9 +94,9 @@ uint32_t quoter_price(uint32_t side, double volatility, double forward, double s
    with a price below its bound, the forward of a call or the strike of a put.
    Otherwise returns 12 or 13, the first that applies: nothing is written. */
 uint32_t quoter_ladder(uint32_t side, double forward, double time,
-                       const double *strikes, uint64_t strike_count, const double *prices, uint64_t price_count,
-                       double *totals, uint64_t total_count, double *volatilities, uint64_t volatility_count,
-                       uint64_t *counts, uint64_t count_count, uint32_t *refusals, uint64_t refusal_count, uint64_t *roots);
+                       const double *strikes, uint64_t strikes_length, const double *prices, uint64_t prices_length,
+                       double *totals, uint64_t totals_length, double *volatilities, uint64_t volatilities_length,
+                       uint64_t *counts, uint64_t counts_length, uint32_t *refusals, uint64_t refusals_length, uint64_t *roots);
 
 /* The number of quotes in a sheet (section 11), whose bytes are in XDR (RFC 4506), the highest byte first: the number of its quotes in 4 bytes,
    then 36 bytes a quote: side in 4, price, forward, strike and time in 8 each.

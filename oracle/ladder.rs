@@ -2,7 +2,7 @@
 //! roots, and not the source, which takes them where it needs them.
 
 use crate::ladder_inputs::Ladder;
-use crate::quote::{Outcome, on_domain, quote};
+use crate::quote::{Outcome, quote};
 use std::fmt::Write;
 
 /// The most strikes of a ladder.
@@ -23,11 +23,15 @@ pub struct Lent {
     pub refusals: Vec<u32>,
 }
 
-/// Whether a quote's strike root is taken: tests 1 to 4 pass, the time is above 0 and the price below the bound. Of tests 5 and 6 the one is
-/// of time zero, and the other of a price above the bound.
+/// Whether a quote's strike root is taken: none of tests 1 to 6 refuses it, the time is above 0 and the price below the bound.
 pub fn takes_root(side: u32, price: f64, forward: f64, strike: f64, time: f64) -> bool {
+    root_taken(quote(side, price, forward, strike, time), side, price, forward, strike, time)
+}
+
+fn root_taken(outcome: Outcome, side: u32, price: f64, forward: f64, strike: f64, time: f64) -> bool {
+    let passes = !matches!(outcome, Outcome::Refusal { number: 1..=6, .. });
     let bound = if side == 0 { forward } else { strike };
-    on_domain(side, price, forward, strike, time) && time > 0.0 && price < bound
+    passes && time > 0.0 && price < bound
 }
 
 /// The ladder entry.
@@ -53,11 +57,12 @@ pub fn ladder(
     }
     let mut roots = 0;
     for i in 0..places {
-        (totals[i], volatilities[i], counts[i], refusals[i]) = match quote(side, prices[i], forward, strikes[i], time) {
+        let outcome = quote(side, prices[i], forward, strikes[i], time);
+        (totals[i], volatilities[i], counts[i], refusals[i]) = match outcome {
             Outcome::Answer { total, volatility, count } => (total, volatility, count, 0),
             Outcome::Refusal { number, count } => (0.0, 0.0, count, number),
         };
-        roots += takes_root(side, prices[i], forward, strikes[i], time) as u64;
+        roots += root_taken(outcome, side, prices[i], forward, strikes[i], time) as u64;
     }
     Reply::Solved { roots }
 }

@@ -33,7 +33,7 @@ volatilityOver time root v = cond (eq time plusZero) plusZero (v ⊘ root)
 abbrev pub volatility : Float → Float → Float
 volatility time v = volatilityOver time (sqrt time) v
 
--- an outcome with its count, as an entry hands it back that has the root of the time
+-- an outcome with its count, as an entry hands it back; root is that of the time
 abbrev pub replyOf : Float → Float → Outcome → ℕ → Reply
 replyOf time root (total v) count = answer v (volatilityOver time root v) count
 replyOf time root (refused number) count = refusal number count

@@ -296,7 +296,8 @@ pub fn from_roots(
     from_time_value(forward, strike, time_value, allowed)
 }
 
-// The reply from a price that passed tests 1 to 6, and the roots of forward, strike and time.
+// The reply from what follows tests 1 to 6, with as many evaluations allowed as any quote makes, and with the roots of forward,
+// strike and time as they are given.
 pub fn reply_from_roots(
     price: f64,
     intrinsic: f64,

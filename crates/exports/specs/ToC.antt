@@ -38,7 +38,7 @@ abbrev pub priceToC : Float → PriceReply → PriceToC
 priceToC old (price p) = handedPrice 0 p
 priceToC old (refusalOfPrice number count) = handedPrice number old
 
--- ---- a ladder: the number, how many strike roots were taken at their place, and the four slices
+-- ---- a ladder: the number, what `roots` then holds, and the four slices
 pub data LadderToC : Type 0 where
   handedLadder : ℕ → ℕ → List Float → List Float → List ℕ → List ℕ → LadderToC
 

@@ -15,7 +15,7 @@ ghost use Prim.Native.Nat.{_+_, _<_};
 ghost use Rattle.explicit_black.specs.Quote.{refusal, impliedBlackVolatilityInput};
 ghost use Rattle.explicit_black.specs.Replies.{viewReply};
 ghost use Rattle.ladder.specs.Ladder.{totalOf, volatilityOf, countOf, numberOf, takesRoot, rootsAfter};
-ghost use Rattle.ladder.specs.Internal.{HasRoots, openReply};
+ghost use Rattle.ladder.specs.Internal.Place.{HasRoots, openReply};
 
 // The reply to a place's quote, and the strike roots taken up to that place.
 pub struct PlaceReply {
@@ -68,7 +68,7 @@ fn refused(number: u32, before: StrikeRoots) -> PlaceReply
     }
 }
 
-// Takes the strike's root of a price that passed tests 1 to 6.
+// The reply at a place that tests 1 to 6 leave open; the root of its strike is taken here.
 fn solve_open(
     shared: Shared,
     price: f64,

@@ -1,8 +1,8 @@
 // Ladders of quotes. Standard input holds ladders one after the other, as XDR writes them: an unsigned side, the doubles
 // forward and time, six unsigned lengths (strikes, prices, totals, volatilities, counts, refusals), then the strikes and the
 // prices. Each ladder gives a line, `L` and how many strike roots were taken or `R` with its refusal and count, and then a line
-// for each place of the longest of the four lent slices: total volatility and volatility by their bits, count and refusal number,
-// or `-` where a slice is shorter. A length over 512, and input that ends inside a ladder, end the run, and so does a read or a
+// for each place of the longest of the four lent slices: total volatility and volatility by their bits, or `nan`, count and
+// refusal number, or `-` where a slice is shorter. A length over 512, and input that ends inside a ladder, end the run, and so does a read or a
 // write that fails.
 mod text;
 

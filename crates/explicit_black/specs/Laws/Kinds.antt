@@ -23,7 +23,7 @@ use Rattle.explicit_black.specs.Quote.{Outcome, total, refused, impliedN
 use Rattle.explicit_black.specs.Quote.{fromCallPrice, fromNormalisedPrice, normalisedTimeValue, fromTimeValue, fromPrice}
 use Rattle.explicit_black.specs.Laws.Tests.{from-price-is}
 
--- the numbers of its refusals begin at `least`
+-- the numbers of its refusals begin at `least`, which is 9 at most
 pub data Kind (least : ℕ) (c : Counted Outcome) : Type 0 where
   -- a total without an evaluation: 0, infinity, or the one at the money
   total-at-once : (v : Float) → c ≡ atOnce (total v) → isNan v ≡ false → T (fits binary64 v) → Kind least c

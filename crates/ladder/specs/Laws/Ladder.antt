@@ -25,7 +25,7 @@ use Rattle.ladder.specs.Ladder.{Ladder, lengthRefusal, solvedLadder, lad
 use Rattle.ladder.specs.Demand.{Inputs, handedBack, refusalOf, strikeAt, priceAt, Compared, comparedAt}
 use Rattle.ladder.specs.Laws.Places.{early-reply, early-root, decided-reply, decided-root, open-reply, open-root}
 use Rattle.ladder.specs.Laws.Places.{reply-at, root-places-length, trues-few, accepted}
-use Rattle.ladder.specs.Internal.{openReply}
+use Rattle.ladder.specs.Internal.Place.{openReply}
 
 -- ---- a quote's reply, and whether its strike's root is taken
 module _ (side : ℕ) (p f k t : Float) where

@@ -23,7 +23,7 @@ use Rattle.explicit_black.specs.Quote.{firstRefusal, intrinsicValue, priceBound
 use Rattle.explicit_black.specs.Quote.{normalisedTimeValue, fromTimeValue, fromPrice, fromQuote, impliedBlackVolatilityInput}
 use Rattle.explicit_black.specs.Laws.Quote.{passed}
 use Rattle.ladder.specs.Ladder.{takesRoot, rootsAfter, replies, trues, rootPlaces, areEqual, lengthRefusal}
-use Rattle.ladder.specs.Internal.{openReply}
+use Rattle.ladder.specs.Internal.Place.{openReply}
 
 module _ (side : ℕ) (p f k t : Float) where
   abbrev intrinsic : Float

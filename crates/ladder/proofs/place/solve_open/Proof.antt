@@ -1,4 +1,4 @@
--- `place::solve_open` meets its contract: the four roots are those of forward, strike and time. Assumes nothing.
+-- `place::solve_open` meets its contract: the three roots are those of forward, strike and time. Assumes nothing.
 use mathlib.Core.Path.{_∙_}
 use Rattle.ladder.specs.Laws.Places.{from-roots-open}
 use borrow.Author.Needs.{needs}

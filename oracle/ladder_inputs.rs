@@ -141,7 +141,7 @@ fn subnormal_place(rng: &mut Rng, head: Quote, other: Quote) -> (f64, f64) {
 }
 
 /// NaN, infinite, zero or below zero.
-fn bad_figure(rng: &mut Rng) -> f64 {
+pub fn bad_figure(rng: &mut Rng) -> f64 {
     match rng.below(3) {
         0 => f64::from_bits(rng.one_of(&NANS)),
         1 => rng.one_of(&[f64::INFINITY, f64::NEG_INFINITY]),

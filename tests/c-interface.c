@@ -216,14 +216,24 @@ static uint32_t call(uint32_t side, double forward, double time, struct slices *
                          s->volatilities + GUARD, n.of[3], s->counts + GUARD, n.of[4], s->refusals + GUARD, n.of[5], roots);
 }
 
-/* No two places of the lent slices hold the same. Strikes and prices are those of an answer. */
+/* By turns a NaN, signalling or quiet, of either sign, and a figure below zero. */
+static void spoil(double *x, int slice, int i)
+{
+    static const uint64_t nans[4] = {0x7FF0000000000000, 0xFFF8000000000000, 0x7FF8000000000000, 0xFFF0000000000000};
+    uint64_t own = (uint64_t)(slice * 1000 + i + 1), pattern = bits(-(double)own);
+    if ((slice + i) % 5 < 4)
+        pattern = nans[(slice + i) % 5] | own;
+    memcpy(x, &pattern, sizeof *x);
+}
+
+/* No two places of the lent slices hold the same, nor the NaN of an operation. Strikes and prices are those of an answer. */
 static void fill(struct slices *s)
 {
     for (int i = 0; i < ROOM; i++) {
         s->strikes[i] = 120.0;
         s->prices[i] = 1.0;
-        s->totals[i] = -1.0 - i;
-        s->volatilities[i] = -10001.0 - i;
+        spoil(&s->totals[i], 2, i);
+        spoil(&s->volatilities[i], 3, i);
         s->counts[i] = UINT64_MAX - (uint64_t)i;
         s->refusals[i] = UINT32_MAX - (uint32_t)i;
     }
@@ -327,7 +337,7 @@ static void known_ladders(void)
     all_refused("time below zero", 1, 100.0, -0x1p-1074, 4);
 }
 
-/* A refused ladder: nothing is written. */
+/* A refused ladder: nothing is written, and every NaN keeps its bits. */
 static void refused(const char *what, struct lengths given, uint32_t number)
 {
     static struct slices found, before;

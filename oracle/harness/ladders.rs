@@ -6,38 +6,67 @@ use oracle::inputs::corners;
 use oracle::ladder::{Lent, Reply, solved as theirs};
 use oracle::ladder_inputs::{LADDER_KINDS, Ladder, Ladders, grouped};
 
-/// Lent slices of which no two elements are alike, and none is what an answer writes.
-fn junk(ladder: &Ladder) -> Lent {
+/// By turns a NaN, quiet or signalling, of either sign, and a figure below zero.
+fn spoilt(slice: usize, i: usize) -> f64 {
+    let own = (slice * 1000 + i + 1) as u64;
+    match (slice + i) % 5 {
+        0 => f64::from_bits(0x7FF0 << 48 | own),
+        1 => f64::from_bits(0xFFF8 << 48 | own),
+        2 => f64::from_bits(0x7FF8 << 48 | own),
+        3 => f64::from_bits(0xFFF0 << 48 | own),
+        _ => -(own as f64),
+    }
+}
+
+/// Lent slices of which no two elements are alike, and none is what an answer writes or the NaN of an operation.
+pub fn junk(ladder: &Ladder) -> Lent {
     let [totals, volatilities, counts, refusals] = ladder.lent;
     Lent {
-        totals: (0..totals).map(|i| -1000.5 - i as f64).collect(),
-        volatilities: (0..volatilities).map(|i| -3000.5 - i as f64).collect(),
+        totals: (0..totals).map(|i| spoilt(0, i)).collect(),
+        volatilities: (0..volatilities).map(|i| spoilt(1, i)).collect(),
         counts: (0..counts).map(|i| u64::MAX - i as u64).collect(),
         refusals: (0..refusals).map(|i| u32::MAX - i as u32).collect(),
     }
 }
 
-/// The elements of a place, figures by their bits; none beyond a slice's end.
-fn place(lent: &Lent, i: usize) -> [Option<u64>; 4] {
-    let figure = |x: Option<&f64>| x.map(|&x| bits(x));
+/// The elements of a place; none beyond a slice's end.
+fn elements(lent: &Lent, i: usize, bits_of: fn(f64) -> u64) -> [Option<u64>; 4] {
+    let figure = |x: Option<&f64>| x.map(|&x| bits_of(x));
     let (total, volatility) = (figure(lent.totals.get(i)), figure(lent.volatilities.get(i)));
     [total, volatility, lent.counts.get(i).copied(), lent.refusals.get(i).map(|&number| number as u64)]
 }
 
-fn head(ladder: &Ladder) -> String {
+/// Figures by their bits, every NaN alike.
+fn place(lent: &Lent, i: usize) -> [Option<u64>; 4] {
+    elements(lent, i, bits)
+}
+
+/// Figures by their bits, also those of a NaN.
+fn raw(lent: &Lent, i: usize) -> [Option<u64>; 4] {
+    elements(lent, i, f64::to_bits)
+}
+
+fn raw_line(lent: &Lent, i: usize) -> String {
+    let [total, volatility, count, number] = raw(lent, i);
+    let figures = [total, volatility].map(|x| x.map_or("-".to_string(), |b| format!("{b:016x}")));
+    let wholes = [count, number].map(|n| n.map_or("-".to_string(), |n| n.to_string()));
+    format!("{} {}", figures.join(" "), wholes.join(" "))
+}
+
+pub fn head(ladder: &Ladder) -> String {
     let figures = [ladder.forward, ladder.time].map(|x| format!("{:016x} ({x:e})", x.to_bits()));
     let lengths = ladder.lengths().map(|length| length.to_string());
     format!("side {} {} lengths {}", ladder.side, figures.join(" "), lengths.join(" "))
 }
 
 /// A place's strike and price, where it has them, after the ladder's own fields.
-fn fields(ladder: &Ladder, i: usize) -> String {
+pub fn fields(ladder: &Ladder, i: usize) -> String {
     let own = [("strike", ladder.strikes.get(i)), ("price", ladder.prices.get(i))];
     let own = own.map(|(name, x)| x.map_or(String::new(), |x| format!(" {name} {:016x} ({x:e})", x.to_bits())));
     format!("{} place {i}{}", head(ladder), own.concat())
 }
 
-fn announce(ladder: &Ladder) {
+pub fn announce(ladder: &Ladder) {
     let [strikes, prices, ..] = ladder.lengths().map(|length| length as u64);
     let input = [ladder.side as u64, ladder.forward.to_bits(), ladder.time.to_bits(), strikes, prices];
     CURRENT.with(|current| current.set(input));
@@ -91,29 +120,38 @@ impl Seen {
     }
 }
 
-/// Compares ladders until they have `count` places, each as many as the longest of its slices; the corners only once. A ladder's result is
-/// compared beside its places.
-fn kind_of_ladders(kind: &str, count: u64, seed: u64) -> (u64, Seen) {
-    let source: Box<dyn Iterator<Item = Ladder>> = match LADDER_KINDS.iter().position(|&name| name == kind) {
+/// Ladders of a kind without end, or the corners.
+pub fn drawn(kind: &str, seed: u64) -> Box<dyn Iterator<Item = Ladder>> {
+    match LADDER_KINDS.iter().position(|&name| name == kind) {
         Some(i) => {
             let mut source = Ladders::new(i, seed);
             Box::new(std::iter::from_fn(move || Some(source.next())))
         }
         None => Box::new(grouped(corners()).into_iter()),
-    };
+    }
+}
+
+/// Compares ladders until they have `count` places, each as many as the longest of its slices; the corners only once. A ladder's result is
+/// compared beside its places. Those of a refused ladder have the bits that they had; in one that is solved no element keeps them.
+fn kind_of_ladders(kind: &str, count: u64, seed: u64) -> (u64, Seen) {
     let mut tally = Tally::new(format!("ladders, {kind}"));
     let mut seen = Seen::default();
-    for ladder in source {
+    for ladder in drawn(kind, seed) {
         if seen.places >= count && kind != CORNERS {
             break;
         }
         announce(&ladder);
-        let (mut mine, mut right) = (junk(&ladder), junk(&ladder));
+        let before = junk(&ladder);
+        let (mut mine, mut right) = (before.clone(), before.clone());
         let (reply, right_reply) = (ours(&ladder, &mut mine), theirs(&ladder, &mut right));
         tally.note(reply == right_reply, || [head(&ladder), format!("{reply:?}"), format!("{right_reply:?}")]);
         for i in 0..right.longest() {
-            let same = place(&mine, i) == place(&right, i);
-            tally.note(same, || [fields(&ladder, i), mine.line(i), right.line(i)]);
+            let (found, old) = (raw(&mine, i), raw(&before, i));
+            let same = match right_reply {
+                Reply::Refusal { .. } => found == old,
+                Reply::Solved { .. } => place(&mine, i) == place(&right, i) && (0..4).all(|k| found[k] != old[k]),
+            };
+            tally.note(same, || [fields(&ladder, i), raw_line(&mine, i), raw_line(&right, i)]);
         }
         seen.add(&ladder, right_reply, &right);
     }

@@ -3,6 +3,8 @@
 mod ladders;
 mod ours;
 mod prices;
+#[cfg(rooted)]
+mod roots;
 
 use oracle::evaluations::counted;
 use oracle::functions::NAMES;
@@ -332,6 +334,7 @@ fn usage() -> ! {
        harness counterexamples            pairs outside its hypotheses that break it
        harness ladders KIND COUNT SEED    ladders until COUNT places were compared; KIND: {CORNERS}, {} or all
        harness ladder-pairs COUNT SEED    scaled and exchanged ladders against each other, place by place
+       harness-rooted roots COUNT SEED    the roots that ladders take, of COUNT places of each kind
        harness standins COUNT SEED        the requirements' exp, ln, ln_1p beside the platform's; nothing is asked of them
 Exit status: 0 no difference, and every counterexample breaks the law; 1 some, or not; 2 bad usage.",
         KINDS.join(", "),
@@ -361,6 +364,8 @@ fn main() {
             ladders::ladders(kind, number(&args[2]), number(&args[3]))
         }
         ["ladder-pairs", _, _] => ladders::pairs(number(&args[1]), number(&args[2])),
+        #[cfg(rooted)]
+        ["roots", _, _] => roots::roots(number(&args[1]), number(&args[2])),
         ["standins", _, _] => {
             standins(number(&args[1]), number(&args[2]));
             0

@@ -7,7 +7,7 @@
           c-interface prices      the interface of `prices`
           c-interface ladders     the interface of `ladders`
 
-   Exit status: 0 all well, 1 a known value differs, 2 bad usage. */
+   Exit status: 0 all well, 1 a known value differs or a refusal wrote something, 2 bad usage. */
 #include "quoter.h"
 
 #include <float.h>

@@ -88,7 +88,8 @@ impl Panel {
 
     fn line(&self, svg: &mut String, points: &[Point], stroke: &str) {
         let path: Vec<String> = points.iter().map(|&p| self.at(p)).map(|(x, y)| format!("{x:.1},{y:.1}")).collect();
-        let _ = write!(svg, "<polyline points='{}' fill='none' stroke='{stroke}' stroke-width='2'/>\n", path.join(" "));
+        let rows: Vec<String> = path.chunks(10).map(|row| row.join(" ")).collect();
+        let _ = write!(svg, "<polyline points='{}'\nfill='none' stroke='{stroke}' stroke-width='2'/>\n", rows.join("\n"));
     }
 }
 

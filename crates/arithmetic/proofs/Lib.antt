@@ -2,6 +2,7 @@
 mod Pairs
 mod RoundDropped
 mod SumJammed
+mod Exponents
 mod MulAddPack
 mod MulAddDecode
 mod MulAddGuarded

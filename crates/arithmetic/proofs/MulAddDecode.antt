@@ -2,17 +2,20 @@
 use mathlib.Core.Path.{_≡_, refl, sym, _∙_, subst}
 use mathlib.Core.Bool.{Bool}
 use Prim.Native.Nat.{ℕ, suc, _+_, _-_, _*_, _/_, _^_, _<_}
-use native.Mathlib.Nat.{add-comm, lt-irrefl}
+use native.Mathlib.Nat.{add-comm}
 use native.Mathlib.Omega.{arith}
-use lib.Dec.{T, leb, lit<}
+use lib.Dec.{T, leb, lit≤}
+use lib.IntN.{ℤ, pos, _-ℤ_}
 use lib.Pow.{field}
 use lib.Bits.{bitAnd, and-mask, mask-lt}
 use lib.Ieee.{Float, binary64, fits, ofFields, toBits}
 use lib.Ieee.Exact.{HasValue}
 use lib.Ieee.Scale.{finite}
 use lib.Ieee.Bits.{ofBits-toBits}
-use Rattle.arithmetic.specs.Internal.MulAdd.{Decoded}
+use Rattle.arithmetic.specs.Internal.Exponent.{above}
+use Rattle.arithmetic.specs.Internal.MulAdd.{OperandExponent, Decoded}
 use Rattle.arithmetic.specs.Laws.Patterns.{ofBits-is, read-zero, read-more, finite-field}
+use Rattle.arithmetic.proofs.Exponents.{Counted, counted-lowered, counted-is, exponent-is}
 
 module _ (x : Float) (F : T (fits binary64 x)) (h : T (finite x)) where
   abbrev b : ℕ
@@ -45,18 +48,36 @@ module _ (x : Float) (F : T (fits binary64 x)) (h : T (finite x)) where
       subst (λ (v : Float). HasValue v s ((2 ^ 52 + t) * 2 ^ j) (2 ^ 1074)) (read-back (suc j) e)
       (read-more s j t (subst (λ (y : ℕ). y < 2047) e field-lt))
 
-  pub decoded-subnormal : f ≡ 0 → Decoded x (record { negative = s; m = t; j = 0 })
-  decoded-subnormal e =
+  pub decoded-subnormal : f ≡ 0 → (j : ℤ) → OperandExponent j → above 1074 j ≡ 0 → Decoded x (record { negative = s; m = t; j = j })
+  decoded-subnormal e j J i =
       let a = mask-lt b 52 in
-      record { value = value-subnormal e; small = omega arith; low = lit< tt; lead = λ h. absurd (lt-irrefl 0 h) }
-
-  pub decoded-normal : (f ≡ 0 → ⊥) → Decoded x (record { negative = s; m = t + 2 ^ 52; j = f - 1 })
-  decoded-normal n =
-      let a = mask-lt b 52 in
-      let l = field-lt in
       record {
-        value = subst (λ (m : ℕ). HasValue x s (m * 2 ^ (f - 1)) (2 ^ 1074)) (add-comm (2 ^ 52) t) (value-normal (f - 1) (omega arith));
+        value = subst (λ (k : ℕ). HasValue x s (t * 2 ^ k) (2 ^ 1074)) (sym i) (value-subnormal e);
         small = omega arith;
-        low = omega arith;
+        exponent = J;
         lead = λ h. omega arith;
       }
+
+  -- of any other field the exponent is 1075 less
+  module _ (n : f ≡ 0 → ⊥) where
+    abbrev j : ℤ
+    j = pos f -ℤ pos 1075
+
+    counted-field : Counted 1074 j (f - 1)
+    counted-field = counted-lowered 1074 (f - 1) 1075 (pos f) (omega arith)
+
+    pub field-exponent : OperandExponent j
+    field-exponent = let l = field-lt in exponent-is 1074 971 1074 (f - 1) j (lit≤ tt) (lit≤ tt) counted-field (omega arith) (omega arith)
+
+    pub decoded-normal : Decoded x (record { negative = s; m = t + 2 ^ 52; j = j })
+    decoded-normal =
+        let a = mask-lt b 52 in
+        let i : f - 1 ≡ above 1074 j = sym (counted-is 1074 (f - 1) j counted-field) in
+        record {
+          value =
+              subst (λ (k : ℕ). HasValue x s ((t + 2 ^ 52) * 2 ^ k) (2 ^ 1074)) i
+              (subst (λ (m : ℕ). HasValue x s (m * 2 ^ (f - 1)) (2 ^ 1074)) (add-comm (2 ^ 52) t) (value-normal (f - 1) (omega arith)));
+          small = omega arith;
+          exponent = field-exponent;
+          lead = λ h. omega arith;
+        }

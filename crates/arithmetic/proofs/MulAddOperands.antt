@@ -4,6 +4,7 @@ use mathlib.Core.Bool.{Bool, true, false, cond, true≢false, false≢true}
 use Prim.Native.Nat.{ℕ, _+_, _*_, _^_}
 use native.Mathlib.Nat.{mul-assoc, mul-comm, mul-left-comm, mul-mul-mul-comm, mul-pos}
 use lib.Dec.{eqb}
+use lib.IntN.{ℤ}
 use lib.Pow.{pow-add, pow-pos}
 use lib.Ieee.{Float, nan, inf, fin, binary64, up, down, unlike, add, mul, sum}
 use lib.Ieee.Fits.{down-pos}
@@ -12,9 +13,11 @@ use lib.Ieee.Scale.{finite}
 use Rattle.arithmetic.specs.declared.pair.Pair.{Pair}
 use Rattle.arithmetic.specs.declared.mul_add.Parts.{Parts}
 use Rattle.arithmetic.specs.Internal.Pair.{val}
+use Rattle.arithmetic.specs.Internal.Exponent.{above}
 use Rattle.arithmetic.specs.Internal.MulAdd.{Decoded, ProductExponent}
 use Rattle.arithmetic.specs.MulAdd.{mulAdd, infinityPlus}
 use Rattle.arithmetic.specs.Laws.Sums.{sum-same}
+use Rattle.arithmetic.proofs.MulAddAlign.{above-term}
 
 -- ---- where one is a NaN or an infinity
 infinityPlus-is : (s : Bool) (b : Float) → add binary64 (inf s) b ≡ infinityPlus s b
@@ -85,18 +88,22 @@ in-units (fin s' m e) (fin t' n d) (fin u' k g) s t u x a b p q r =
     ∙ rw (p .0, q .0, r .0)
 
 -- with their parts, and with a product p and its exponent e
-pub mul-add-of-parts : {X A B : Float} (x a b : Parts) (p : Pair) (e : ℕ) → Decoded X x → Decoded A a → Decoded B b
+pub mul-add-of-parts : {X A B : Float} (x a b : Parts) (p : Pair) (e : ℤ) → Decoded X x → Decoded A a → Decoded B b
     → val p ≡ x .m * a .m → ProductExponent x a e
-    → sum binary64 (unlike (x .negative) (a .negative)) (val p * 2 ^ e) (b .negative) (b .m * 2 ^ (b .j + 1074)) (2 ^ 2148) ≡ mulAdd X A B
+    → sum binary64 (unlike (x .negative) (a .negative)) (val p * 2 ^ above 2148 e) (b .negative) (b .m * 2 ^ above 2148 (b .j)) (2 ^ 2148)
+    ≡ mulAdd X A B
 mul-add-of-parts {X} {A} {B} x a b p e hx ha hb P E =
     let s = unlike (x .negative) (a .negative) in
     let t = b .negative in
-    let product : x .m * 2 ^ x .j * (a .m * 2 ^ a .j) ≡ val p * 2 ^ e =
-    mul-mul-mul-comm (x .m) (2 ^ x .j) (a .m) (2 ^ a .j)
-    ∙ ap (λ (y : ℕ). x .m * a .m * y) (sym (pow-add 2 (x .j) (a .j)))
-    ∙ sym (ap (λ (y : ℕ). y * 2 ^ e) P ∙ E .value) in
-    let addend : b .m * 2 ^ b .j * 2 ^ 1074 ≡ b .m * 2 ^ (b .j + 1074) =
-    mul-assoc (b .m) (2 ^ b .j) (2 ^ 1074) ∙ ap (λ (y : ℕ). b .m * y) (sym (pow-add 2 (b .j) 1074)) in
-    sym (in-units X A B (x .negative) (a .negative) t (x .m * 2 ^ x .j) (a .m * 2 ^ a .j) (b .m * 2 ^ b .j) (hx .value) (ha .value) (hb .value)
-    ∙ ap (λ (y : ℕ). sum binary64 s y t (b .m * 2 ^ b .j * 2 ^ 1074) (2 ^ 2148)) product
-    ∙ ap (λ (y : ℕ). sum binary64 s (val p * 2 ^ e) t y (2 ^ 2148)) addend)
+    let i = above 1074 (x .j) in
+    let j = above 1074 (a .j) in
+    let k = above 1074 (b .j) in
+    let product : x .m * 2 ^ i * (a .m * 2 ^ j) ≡ val p * 2 ^ above 2148 e =
+    mul-mul-mul-comm (x .m) (2 ^ i) (a .m) (2 ^ j)
+    ∙ ap (λ (y : ℕ). x .m * a .m * y) (sym (pow-add 2 i j))
+    ∙ sym (ap (λ (y : ℕ). y * 2 ^ above 2148 e) P ∙ E .value) in
+    let addend : b .m * 2 ^ k * 2 ^ 1074 ≡ b .m * 2 ^ above 2148 (b .j) =
+    mul-assoc (b .m) (2 ^ k) (2 ^ 1074) ∙ ap (λ (y : ℕ). b .m * y) (sym (ap (λ (y : ℕ). 2 ^ y) (above-term (b .j) (hb .exponent)) ∙ pow-add 2 k 1074)) in
+    sym (in-units X A B (x .negative) (a .negative) t (x .m * 2 ^ i) (a .m * 2 ^ j) (b .m * 2 ^ k) (hx .value) (ha .value) (hb .value)
+    ∙ ap (λ (y : ℕ). sum binary64 s y t (b .m * 2 ^ k * 2 ^ 1074) (2 ^ 2148)) product
+    ∙ ap (λ (y : ℕ). sum binary64 s (val p * 2 ^ above 2148 e) t y (2 ^ 2148)) addend)

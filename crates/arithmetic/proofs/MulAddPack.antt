@@ -16,7 +16,6 @@ use lib.Ieee.Bits.{ofBits-fits}
 use lib.Ieee.Exact.{HasValue, odd-sign}
 use lib.Ieee.Nearest.{closest, nearest-ge}
 use borrow.Author.Tests.{lt-ltb, le-ltb}
-use Rattle.arithmetic.specs.Internal.MulAdd.{keptExponentBound}
 use Rattle.arithmetic.specs.Laws.Numbers.{cmp-lt, cmp-gt, lt-or-le, pow-split}
 use Rattle.arithmetic.specs.Laws.Patterns.{signed-is, read-zero, read-more, value-unique}
 use Rattle.arithmetic.specs.Laws.Representable.{value-under}
@@ -114,7 +113,7 @@ pub record Packed (m k q : ℕ) : Type 0 where
   pub finite : (s : Bool) → magnitude k q < 2047 * 2 ^ 52 → ofBits binary64 (cond s (2 ^ 63) 0 + magnitude k q) ≡ units binary64 s (closest m 4) k
   pub infinite : (s : Bool) → 2047 * 2 ^ 52 ≤ magnitude k q → ofBits binary64 (cond s (2 ^ 63) 0 + 2047 * 2 ^ 52) ≡ units binary64 s (closest m 4) k
 
-pub packed : (m k q : ℕ) → m < 2 ^ 55 → k < keptExponentBound → (0 < k → 2 ^ 54 ≤ m) → q ≡ closest m 4 → Packed m k q
+pub packed : (m k q : ℕ) → m < 2 ^ 55 → k ≤ 3091 → (0 < k → 2 ^ 54 ≤ m) → q ≡ closest m 4 → Packed m k q
 packed m k q M K lead e =
     let n = closest m 4 in
     let is : magnitude k q ≡ k * 2 ^ 52 + n = ap (λ (x : ℕ). x + q) (mod-eq-of-lt (shifted k K)) ∙ ap (λ (x : ℕ). k * 2 ^ 52 + x) e in
@@ -128,8 +127,8 @@ packed m k q M K lead e =
       infinite = λ s h. infinite-pattern n k most least s (subst (λ (x : ℕ). 2047 * 2 ^ 52 ≤ x) is h);
     }
   where
-    shifted : (k : ℕ) → k < 3200 → k * 4503599627370496 < 18446744073709551616
+    shifted : (k : ℕ) → k ≤ 3091 → k * 4503599627370496 < 18446744073709551616
     shifted k h = omega arith
 
-    room : (k q x : ℕ) → k < 3200 → q ≤ 9007199254740992 → x ≡ k * 4503599627370496 + q → x < 18446744073709551616
+    room : (k q x : ℕ) → k ≤ 3091 → q ≤ 9007199254740992 → x ≡ k * 4503599627370496 + q → x < 18446744073709551616
     room k q x a b d = omega arith

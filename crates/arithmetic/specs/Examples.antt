@@ -4,10 +4,12 @@ use Prim.Native.Nat.{ℕ, _^_}
 use mathlib.Core.Bool.{true, false}
 use lib.IntN.{pos, negsuc}
 use lib.Dec.{T, eqb}
+use lib.Signed.{leZ-yes}
 use lib.Ieee.{Float, nan, inf, fin, mul, ofBits}
 use Rattle.arithmetic.specs.Operations.{_⊗_, bits, plusZero, one, two}
 use Rattle.arithmetic.specs.Sqrt.{sqrt}
 use Rattle.arithmetic.specs.MulAdd.{mulAdd}
+use Rattle.arithmetic.specs.Internal.Exponent.{InRange, above}
 use Rattle.arithmetic.specs.Exp.{oThreshold, uThreshold, exp}
 use Rattle.arithmetic.specs.Ln.{ln, ln1p}
 use Rattle.arithmetic.specs.Laws.Times.{Times}
@@ -42,6 +44,16 @@ pub fused-controls : (mulAdd (inf false) (fin true 0 (pos 0)) (fin false 1 (pos 
     × (mulAdd (fin false 1 (pos 1023)) (fin false 1 (pos 1)) (fin true 1 (pos 1023)) ≡ fin false 1 (pos 1023))
 unfolding mulAdd
 fused-controls = (refl, refl, refl, refl, refl, refl, refl, refl, refl, refl, refl)
+
+-- the ends of an exponent's range, and what lies one past them
+pub exponent-range : InRange (negsuc 3999) × InRange (pos 4000) × (InRange (negsuc 4000) → ⊥) × (InRange (pos 4001) → ⊥)
+exponent-range =
+    (record { least = leZ-yes tt; most = leZ-yes tt }, record { least = leZ-yes tt; most = leZ-yes tt }, (λ h. h .least .le), (λ h. h .most .le))
+
+-- those of the least and the largest value and product, counted from the least on; 1 has its last digit at 2 ^ -52
+pub exponent-counts : (above 1074 (negsuc 1073) ≡ 0) × (above 1074 (negsuc 51) ≡ 1022) × (above 1074 (pos 971) ≡ 2045)
+    × (above 2148 (negsuc 2147) ≡ 0) × (above 2148 (negsuc 1073) ≡ 1074) × (above 2148 (pos 1942) ≡ 4090)
+exponent-counts = (refl, refl, refl, refl, refl, refl)
 
 -- e; the smallest result above zero, for which k is -1075; the largest, for which k is 1024
 pub exp-values : (exp one ≡ bits 0x4005_bf0a_8b14_576a)

@@ -5,12 +5,11 @@ pub(crate) const PRECISION: u64 = 53;
 
 pub(crate) const FRACTION_DIGITS: u64 = 52;
 
-// The smallest value above 0 is 2^-LOWEST.
-pub(crate) const LOWEST: u64 = 1074;
+// The smallest value above 0 is 2^LEAST_EXPONENT.
+pub(crate) const LEAST_EXPONENT: i16 = -1074;
 
-// A number of so many units of the product's scale, 2^-(2 * LOWEST), or more binary digits is rounded as a normal one:
-// LOWEST + PRECISION.
-pub(crate) const NORMAL_DIGITS: u64 = 1127;
+// The smallest normal value is half of 2^MIN_EXP: LEAST_EXPONENT + PRECISION.
+pub(crate) const MIN_EXP: i16 = -1021;
 
 // The exponent's field of 1.
 pub(crate) const BIAS: u64 = 1023;

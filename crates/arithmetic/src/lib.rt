@@ -2,6 +2,7 @@
 pub mod basic;
 pub mod constants;
 pub mod exp;
+mod exponent;
 pub mod format;
 pub mod fused_multiply_add;
 pub mod ln;

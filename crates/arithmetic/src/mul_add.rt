@@ -8,21 +8,27 @@ ghost use lib.Ieee.{binary64};
 ghost use lib.Ieee.Scale.{finite};
 ghost use lib.Ieee.Nearest.{closest};
 ghost use Rattle.arithmetic.specs.Internal.Pair.{val};
-ghost use Rattle.arithmetic.specs.Internal.MulAdd.{exponentBound, keptExponentBound, Decoded, ProductExponent, Operands, Aligned, IsGuarded};
+ghost use Rattle.arithmetic.specs.Internal.Exponent.{above};
+ghost use Rattle.arithmetic.specs.Internal.MulAdd.{OperandExponent, TermExponent, KeptExponent};
+ghost use Rattle.arithmetic.specs.Internal.MulAdd.{Decoded, ProductExponent, Operands, Aligned, LastDigit, IsGuarded};
 ghost use Rattle.arithmetic.specs.MulAdd.{mulAdd};
 use super::basic::is_finite;
-use super::format::EXPONENT_FIELD;
+use super::exponent;
 use super::format::FRACTION_DIGITS;
 use super::format::FRACTION_FIELD;
 use super::format::INFINITY;
-use super::format::LOWEST;
-use super::format::NORMAL_DIGITS;
+use super::format::LEAST_EXPONENT;
+use super::format::MIN_EXP;
 use super::format::PRECISION;
 use super::format::SIGN;
 use super::format::TWO_TO_52;
+use super::format::WHOLE_FIELD;
 use super::pair;
 use super::pair::Pair;
 use super::pair::WORD;
+
+// The smallest product above 0 is 2^LEAST_PRODUCT_EXPONENT: twice LEAST_EXPONENT.
+const LEAST_PRODUCT_EXPONENT: i16 = -2148;
 
 // A product has 106 binary digits at most, and can be shifted up by so many within a pair.
 const HEADROOM: u64 = 20;
@@ -36,24 +42,24 @@ const GUARD_FIELD: u64 = 3;
 
 const TIE: u64 = 2;
 
-// The sign, and the magnitude m * 2^j in units of 2^-1074.
+// The sign, and the magnitude m * 2^j.
 pub struct Parts {
     pub negative: bool,
     pub m: u64,
-    pub j: u64,
+    pub j: i16,
 }
 
-// Two terms on one scale: a * 2^e and b * 2^e in units of 2^-2148.
+// Two terms on one scale: a * 2^e and b * 2^e.
 pub struct Terms {
     pub a: Pair,
     pub b: Pair,
-    pub e: u64,
+    pub e: i16,
 }
 
 // m / 4 * 2^k, for an m of at most 55 digits: the last two are the guard digit and the sticky digit.
 pub struct Guarded {
     pub m: u64,
-    pub k: u64,
+    pub k: i16,
 }
 
 // The parts of a finite x.
@@ -63,32 +69,32 @@ fn decode(x: f64) -> Parts
 {
     let bits = f64::to_bits(x);
     let negative = SIGN <= bits;
-    let field = (bits >> FRACTION_DIGITS) & EXPONENT_FIELD;
+    let field = exponent::field(bits);
     let digits = bits & FRACTION_FIELD;
     if field == 0 {
         Parts {
             negative,
             m: digits,
-            j: 0,
+            j: LEAST_EXPONENT,
         }
     } else {
         Parts {
             negative,
             m: digits + TWO_TO_52,
-            j: field - 1,
+            j: exponent::lowered(field, WHOLE_FIELD),
         }
     }
 }
 
 // p * 2^ep and m * 2^em on one scale. What a term has below the scale is jammed into its last digit, which lies far
 // below the last digit of the rounded sum.
-fn align(p: Pair, ep: u64, m: u64, em: u64) -> Terms
+fn align(p: Pair, ep: i16, m: u64, em: i16) -> Terms
     requires { ⌜ Operands (val p) ep m em ⌝ }
     ensures { λ r. ⌜ Aligned (val p) ep m em r ⌝ }
 {
     let b = Pair { hi: 0, lo: m };
     if ep <= em {
-        let d = em - ep;
+        let d = exponent::distance(em, ep);
         if d <= WORD {
             Terms {
                 a: p,
@@ -99,11 +105,11 @@ fn align(p: Pair, ep: u64, m: u64, em: u64) -> Terms
             Terms {
                 a: pair::jam(p, d - WORD),
                 b: Pair { hi: m, lo: 0 },
-                e: em - WORD,
+                e: exponent::lowered(em, WORD),
             }
         }
     } else {
-        let d = ep - em;
+        let d = exponent::distance(ep, em);
         if d <= HEADROOM {
             Terms {
                 a: pair::up(p, d),
@@ -114,46 +120,46 @@ fn align(p: Pair, ep: u64, m: u64, em: u64) -> Terms
             Terms {
                 a: pair::up(p, HEADROOM),
                 b: pair::jam(b, d - HEADROOM),
-                e: ep - HEADROOM,
+                e: exponent::lowered(ep, HEADROOM),
             }
         }
     }
 }
 
-// v * 2^e, in units of 2^-2148, cut to the digits that a result keeps, the guard digit and the sticky digit.
-fn to_guarded(v: Pair, e: u64) -> Guarded
-    requires { ⌜ e < exponentBound ⌝ }
-    ensures { λ r. ⌜ IsGuarded (val v * 2 ^ e) r ⌝ }
+// v * 2^e, cut to the digits that a result keeps, the guard digit and the sticky digit. 2^end is the least power of two
+// above v * 2^e.
+fn to_guarded(v: Pair, e: i16) -> Guarded
+    requires { ⌜ TermExponent e ⌝ }
+    ensures { λ r. ⌜ IsGuarded (val v * 2 ^ above 2148 e) r ⌝ }
 {
     let n = pair::digits(v);
     if n == 0 {
-        return Guarded { m: 0, k: 0 };
+        return Guarded {
+            m: 0,
+            k: LEAST_EXPONENT,
+        };
     }
-    if n + e < NORMAL_DIGITS {
-        to_guarded_above(v, n, e, LOWEST)
+    let end = exponent::raised(e, n);
+    if MIN_EXP <= end {
+        to_guarded_above(v, e, exponent::lowered(end, PRECISION))
     } else {
-        to_guarded_above(v, n, e, n + e - PRECISION)
+        to_guarded_above(v, e, LEAST_EXPONENT)
     }
 }
 
-// The guarded number of v * 2^e for a v of n digits, where `at` is the exponent of the result's last digit, in units of
-// 2^-2148: digits below the guard digit are jammed into the sticky one, or zeros are appended.
-fn to_guarded_above(v: Pair, n: u64, e: u64, at: u64) -> Guarded
-    requires { ⌜ n ≡ Ieee.size (val v) ⌝ ∗ ⌜ 0 < n ⌝ ∗ ⌜ e < exponentBound ⌝ ∗ ⌜ at ≡ 1074 + (n + e - 1127) ⌝ }
-    ensures { λ r. ⌜ IsGuarded (val v * 2 ^ e) r ⌝ }
+// The guarded number of v * 2^e, where `at` is the exponent of the result's last digit: digits below the guard digit are
+// jammed into the sticky one, or zeros are appended.
+fn to_guarded_above(v: Pair, e: i16, at: i16) -> Guarded
+    requires { ⌜ LastDigit (val v) e at ⌝ }
+    ensures { λ r. ⌜ IsGuarded (val v * 2 ^ above 2148 e) r ⌝ }
 {
-    if e + GUARD_DIGITS <= at {
-        let m = pair::jam(v, at - e - GUARD_DIGITS);
-        Guarded {
-            m: m.lo,
-            k: at - LOWEST,
-        }
+    let sticky = exponent::lowered(at, GUARD_DIGITS);
+    if e <= sticky {
+        let m = pair::jam(v, exponent::distance(sticky, e));
+        Guarded { m: m.lo, k: at }
     } else {
-        let m = pair::up(v, e + GUARD_DIGITS - at);
-        Guarded {
-            m: m.lo,
-            k: at - LOWEST,
-        }
+        let m = pair::up(v, exponent::distance(e, sticky));
+        Guarded { m: m.lo, k: at }
     }
 }
 
@@ -185,13 +191,13 @@ fn with_sign(negative: bool, magnitude: u64) -> f64
     }
 }
 
-// m / 4 * 2^k units of 2^-1074, rounded to a whole number times 2^k, or to an infinity. A carry out of the significand
-// goes into the exponent's field.
-fn pack(negative: bool, m: u64, k: u64) -> f64
-    requires { ⌜ m < 2 ^ 55 ⌝ ∗ ⌜ k < keptExponentBound ⌝ ∗ ⌜ (0 < k → 2 ^ 54 ≤ m) ⌝ }
-    ensures { λ r. ⌜ r ≡ Ieee.units binary64 negative (closest m 4) k ⌝ }
+// m / 4 * 2^k, rounded to a whole number times 2^k, or to an infinity. A carry out of the significand goes into the
+// exponent's field.
+fn pack(negative: bool, m: u64, k: i16) -> f64
+    requires { ⌜ m < 2 ^ 55 ⌝ ∗ ⌜ KeptExponent k ⌝ ∗ ⌜ (0 < above 1074 k → 2 ^ 54 ≤ m) ⌝ }
+    ensures { λ r. ⌜ r ≡ Ieee.units binary64 negative (closest m 4) (above 1074 k) ⌝ }
 {
-    let magnitude = (k << FRACTION_DIGITS) + round_guarded(m);
+    let magnitude = (exponent::distance(k, LEAST_EXPONENT) << FRACTION_DIGITS) + round_guarded(m);
     if magnitude < INFINITY {
         with_sign(negative, magnitude)
     } else {
@@ -199,10 +205,10 @@ fn pack(negative: bool, m: u64, k: u64) -> f64
     }
 }
 
-// v * 2^e, in units of 2^-2148, rounded.
-fn round_magnitude(negative: bool, v: Pair, e: u64) -> f64
-    requires { ⌜ e < exponentBound ⌝ }
-    ensures { λ r. ⌜ r ≡ Ieee.round binary64 negative (val v * 2 ^ e) (2 ^ 2148) ⌝ }
+// v * 2^e, rounded.
+fn round_magnitude(negative: bool, v: Pair, e: i16) -> f64
+    requires { ⌜ TermExponent e ⌝ }
+    ensures { λ r. ⌜ r ≡ Ieee.round binary64 negative (val v * 2 ^ above 2148 e) (2 ^ 2148) ⌝ }
 {
     let n = to_guarded(v, e);
     pack(negative, n.m, n.k)
@@ -217,8 +223,8 @@ fn both(s: bool, t: bool) -> bool
 
 // The sum of two terms with their signs, rounded.
 fn sum_terms(s: bool, t: bool, w: Terms) -> f64
-    requires { ⌜ val (w .a) < 2 ^ 127 ⌝ ∗ ⌜ val (w .b) < 2 ^ 127 ⌝ ∗ ⌜ w .e < exponentBound ⌝ }
-    ensures { λ r. ⌜ r ≡ Ieee.sum binary64 s (val (w .a) * 2 ^ w .e) t (val (w .b) * 2 ^ w .e) (2 ^ 2148) ⌝ }
+    requires { ⌜ val (w .a) < 2 ^ 127 ⌝ ∗ ⌜ val (w .b) < 2 ^ 127 ⌝ ∗ ⌜ TermExponent (w .e) ⌝ }
+    ensures { λ r. ⌜ r ≡ Ieee.sum binary64 s (val (w .a) * 2 ^ above 2148 (w .e)) t (val (w .b) * 2 ^ above 2148 (w .e)) (2 ^ 2148) ⌝ }
 {
     let a = w.a;
     let b = w.b;
@@ -232,17 +238,18 @@ fn sum_terms(s: bool, t: bool, w: Terms) -> f64
     }
 }
 
-// The product's exponent: 0 for a product that is 0.
-fn product_exponent(u: Parts, v: Parts) -> u64
-    requires { ⌜ u .j < 2046 ⌝ ∗ ⌜ v .j < 2046 ⌝ ∗ ⌜ (0 < u .j → 2 ^ 52 ≤ u .m) ⌝ ∗ ⌜ (0 < v .j → 2 ^ 52 ≤ v .m) ⌝ }
+// The product's exponent: the least one for a product that is 0.
+fn product_exponent(u: Parts, v: Parts) -> i16
+    requires { ⌜ OperandExponent (u .j) ⌝ ∗ ⌜ OperandExponent (v .j) ⌝ }
+    requires { ⌜ (0 < above 1074 (u .j) → 2 ^ 52 ≤ u .m) ⌝ ∗ ⌜ (0 < above 1074 (v .j) → 2 ^ 52 ≤ v .m) ⌝ }
     ensures { λ r. ⌜ ProductExponent u v r ⌝ }
 {
     if u.m == 0 {
-        0
+        LEAST_PRODUCT_EXPONENT
     } else if v.m == 0 {
-        0
+        LEAST_PRODUCT_EXPONENT
     } else {
-        u.j + v.j
+        exponent::sum(u.j, v.j)
     }
 }
 
@@ -257,7 +264,7 @@ pub fn mul_add(x: f64, a: f64, b: f64) -> f64
                 let v = decode(a);
                 let w = decode(b);
                 let p = pair::product(u.m, v.m);
-                let terms = align(p, product_exponent(u, v), w.m, w.j + LOWEST);
+                let terms = align(p, product_exponent(u, v), w.m, w.j);
                 sum_terms(u.negative != v.negative, w.negative, terms)
             } else {
                 b

@@ -2,9 +2,14 @@
 -- steps ensure. Assumes nothing.
 use mathlib.Core.Path.{_≡_, sym, _∙_}
 use mathlib.Core.Bool.{true}
+use lib.IntN.{ℤ}
 use lib.Ieee.{unlike}
 use lib.Ieee.Scale.{finite}
 use denote.Floats.{passes}
+use Rattle.arithmetic.specs.Internal.Pair.{val}
+use Rattle.arithmetic.specs.Internal.Exponent.{InRange}
+use Rattle.arithmetic.specs.Internal.MulAdd.{Aligned}
+use Rattle.arithmetic.proofs.Exponents.{held-is, of-held}
 use Rattle.arithmetic.proofs.MulAddAlign.{operands}
 use Rattle.arithmetic.proofs.MulAddOperands.{first-special, second-special, third-special, mul-add-of-parts}
 use borrow.Author.Needs.{needs}
@@ -29,6 +34,13 @@ decode-requires-2 c κs = let at-b = c .before in passes _ (a-finite (at-b .befo
 decode-requires-3 : tie.Need-decode-requires-3
 decode-requires-3 c κs = passes _ (b-finite (c .before .before))
 
+-- the exponents of the product and of the addend are in range
+product-in-range : (c : tie.After-product-exponent) → InRange (c .product-exponent .result)
+product-in-range c = c .product-exponent .ensures .exponent .in-range
+
+addend-in-range : (c : tie.After-decode3) → InRange (c .decode3 .result .j)
+addend-in-range c = c .decode3 .ensures .exponent .in-range
+
 align-requires : tie.Need-align-requires
 align-requires c κs =
     let at-exponent = c .before in
@@ -36,13 +48,25 @@ align-requires c κs =
     let of-b = at-product .before in
     let of-a = of-b .before in
     let of-x = of-a .before in
-    operands (of-x .decode .result) (of-a .decode2 .result) (of-b .decode3 .result) (at-product .product .result) (at-exponent .product-exponent .result)
-    (of-x .decode .ensures) (of-a .decode2 .ensures) (of-b .decode3 .ensures) (at-product .product .ensures) (at-exponent .product-exponent .ensures)
+    rw (held-is _ (product-in-range at-exponent), held-is _ (addend-in-range of-b))
+    (operands (of-x .decode .result) (of-a .decode2 .result) (of-b .decode3 .result) (at-product .product .result) (at-exponent .product-exponent .result)
+    (of-x .decode .ensures) (of-a .decode2 .ensures) (of-b .decode3 .ensures) (at-product .product .ensures) (at-exponent .product-exponent .ensures))
+
+aligned : (c : tie.After-align)
+    → let at-exponent = c .before .before in
+    let at-product = at-exponent .before in
+    let b = at-product .before .decode3 .result in
+    Aligned (val (at-product .product .result)) (at-exponent .product-exponent .result) (b .m) (b .j) (c .align .result)
+aligned c =
+    let at-exponent = c .before .before in
+    let at-product = at-exponent .before in
+    let of-b = at-product .before in
+    of-held (λ (i j : ℤ). Aligned (val (at-product .product .result)) i (of-b .decode3 .result .m) j (c .align .result)) _ _
+    (product-in-range at-exponent) (addend-in-range of-b) (c .align .ensures)
 
 returns : tie.Need-returns
 returns c =
-    let at-signs = c .before .before in
-    let at-align = at-signs .before in
+    let at-align = c .before .before .before in
     let at-exponent = at-align .before .before in
     let at-product = at-exponent .before in
     let of-b = at-product .before in
@@ -52,7 +76,7 @@ returns c =
     let a = of-a .decode2 .result in
     let b = of-b .decode3 .result in
     c .sum-terms .ensures
-    ∙ sym (at-align .align .ensures .same (unlike (x .negative) (a .negative)) (b .negative))
+    ∙ sym (aligned at-align .same (unlike (x .negative) (a .negative)) (b .negative))
     ∙ mul-add-of-parts x a b (at-product .product .result) (at-exponent .product-exponent .result)
     (of-x .decode .ensures) (of-a .decode2 .ensures) (of-b .decode3 .ensures) (at-product .product .ensures) (at-exponent .product-exponent .ensures)
 
@@ -78,5 +102,5 @@ pub mul-add-spec : {M : Type 1} → statement M
 mul-add-spec =
     tie.close
     (tie.spec (λ c κs. search needs) (λ c κs. search needs) (λ c κs. search needs) decode-requires decode-requires-2
-    decode-requires-3 (λ c κs. search needs) (λ c κs. search needs) (λ c. search needs) align-requires
+    decode-requires-3 (λ c κs. search needs) (λ c κs. search needs) align-requires
     (λ c κs. search needs) returns returns-2 returns-3 returns-4)

@@ -1,47 +1,75 @@
 -- `mul_add::to_guarded_above` meets its contract, by the laws of `MulAddGuarded`. Assumes nothing.
-use mathlib.Core.Path.{ap, _∙_, subst}
-use Prim.Native.Nat.{ℕ, _+_, _-_, _<_}
+use mathlib.Core.Path.{_≡_}
+use Prim.Native.Nat.{_+_, _≤_}
+use lib.Dec.{lit≤}
+use lib.Ieee.{size}
 use Rattle.arithmetic.specs.Internal.Pair.{val}
+use Rattle.arithmetic.specs.Internal.Exponent.{above}
 use Rattle.arithmetic.proofs.Pairs.{val-size}
-use Rattle.arithmetic.proofs.MulAddGuarded.{LastPlace, jam-by, guarded-jam, up-by, up-fits, guarded-up}
+use Rattle.arithmetic.proofs.Exponents.{held-is, lowered-asks}
+use Rattle.arithmetic.proofs.MulAddGuarded.{sticky-in-range, jam-order, jam-asks, jam-gives, up-order, up-asks, up-gives}
+use Rattle.arithmetic.proofs.MulAddGuarded.{jam-by, guarded-jam, up-by, up-fits, guarded-up}
 use borrow.Author.Needs.{needs}
 use Rattle.arithmetic.proofs.mul_add.to_guarded_above.Statement.{statement}
 use Rattle.arithmetic.proofs.mul_add.to_guarded_above.Tie as tie
 
-last-place : (c : tie.Start) → LastPlace (val (c .args .v)) (c .args .e) (c .args .at)
-last-place c = record {
-  some = subst (λ (x : ℕ). 0 < x) (c .pre .0) (c .pre .1 .0);
-  few = val-size (c .args .v) (search needs) (search needs);
-  low = c .pre .1 .1 .0;
-  is = c .pre .1 .1 .1 ∙ ap (λ (x : ℕ). 1074 + (x + c .args .e - 1127)) (c .pre .0);
-}
+few : (c : tie.Start) → size (val (c .args .v)) ≤ 128
+few c = val-size (c .args .v) (search needs) (search needs)
+
+lowered-requires : tie.Need-lowered-requires
+lowered-requires c κs = lowered-asks (c .args .at) (c .pre .kept .in-range) 2 (lit≤ tt) (sticky-in-range _ (few c) _ _ (c .pre))
+
+distance-requires : tie.Need-distance-requires
+distance-requires c κs =
+    let s = c .before .before in
+    let sticky = c .before .lowered .ensures in
+    jam-asks _ (few s) _ _ (s .pre) _ sticky (jam-order _ (few s) _ _ (s .pre) _ sticky (c .if1 .taken))
+
+distance-requires-2 : tie.Need-distance-requires-2
+distance-requires-2 c κs =
+    let s = c .before .before in
+    let sticky = c .before .lowered .ensures in
+    up-asks _ (few s) _ _ (s .pre) _ sticky (up-order _ (few s) _ _ (s .pre) _ sticky (c .if1 .left))
+
+-- how many digits are jammed, or appended
+jammed : (c : tie.After-distance) → let a = c .before .before .before .args in c .distance .result + above 2148 (a .e) ≡ 1072 + above 1074 (a .at)
+jammed c =
+    let at-lowered = c .before .before in
+    let s = at-lowered .before in
+    let sticky = at-lowered .lowered .ensures in
+    jam-gives _ (few s) _ _ (s .pre) _ sticky (jam-order _ (few s) _ _ (s .pre) _ sticky (c .before .if1 .taken)) _ (c .distance .ensures .0)
+
+appended : (c : tie.After-distance2) → let a = c .before .before .before .args in c .distance2 .result + (1072 + above 1074 (a .at)) ≡ above 2148 (a .e)
+appended c =
+    let at-lowered = c .before .before in
+    let s = at-lowered .before in
+    let sticky = at-lowered .lowered .ensures in
+    up-gives _ (few s) _ _ (s .pre) _ sticky (up-order _ (few s) _ _ (s .pre) _ sticky (c .before .if1 .left)) _ (c .distance2 .ensures .0)
 
 jam-requires : tie.Need-jam-requires
 jam-requires c κs =
-    let start = c .before in
-    jam-by (val (start .args .v)) (start .args .e) (start .args .at) (last-place start) (c .if1 .taken)
+    let s = c .before .before .before in
+    jam-by _ (few s) _ _ (s .pre) _ (jammed c)
 
 up-requires : tie.Need-up-requires
 up-requires c κs =
-    let start = c .before in
-    let v = val (start .args .v) in
-    let p = last-place start in
-    (up-by v (start .args .e) (start .args .at) p (c .if1 .left), up-fits v (start .args .e) (start .args .at) p (c .if1 .left))
+    let s = c .before .before .before in
+    (up-by _ (few s) _ _ (s .pre) _ (appended c), up-fits _ (few s) _ _ (s .pre) _ (appended c))
 
 returns : tie.Need-returns
 returns c =
-    let start = c .before .before in
+    let at-distance = c .before in
+    let s = at-distance .before .before .before in
     let r = c .jam .result in
-    guarded-jam (val (start .args .v)) (start .args .e) (start .args .at) (last-place start) (c .before .if1 .taken) (r .hi) (r .lo) (c .jam .ensures)
+    rw (held-is (s .args .at) (s .pre .kept .in-range)) (guarded-jam _ (few s) _ _ (s .pre) _ (jammed at-distance) (r .hi) (r .lo) (c .jam .ensures))
 
 returns-2 : tie.Need-returns-2
 returns-2 c =
-    let start = c .before .before in
+    let at-distance = c .before in
+    let s = at-distance .before .before .before in
     let r = c .up .result in
-    guarded-up (val (start .args .v)) (start .args .e) (start .args .at) (last-place start) (c .before .if1 .left) (r .hi) (r .lo) (c .up .ensures)
+    rw (held-is (s .args .at) (s .pre .kept .in-range)) (guarded-up _ (few s) _ _ (s .pre) _ (appended at-distance) (r .hi) (r .lo) (c .up .ensures))
 
 pub to-guarded-above-spec : {M : Type 1} → statement M
 to-guarded-above-spec =
-    tie.close
-    (tie.spec (λ c. search needs) (λ c. search needs) (λ c. search needs) jam-requires (λ c. search needs)
-    (λ c. search needs) (λ c. search needs) up-requires (λ c. search needs) returns returns-2)
+    tie.close (tie.spec lowered-requires distance-requires jam-requires distance-requires-2 up-requires returns returns-2)

@@ -1,0 +1,21 @@
+-- `exponent::sum` meets its contract: what is read back of both exponents is they, and their sum is in range. Assumes nothing.
+use mathlib.Core.Path.{_≡_, ap, _∙_}
+use lib.IntN.{ℤ, _+ℤ_}
+use Rattle.arithmetic.proofs.Exponents.{held, held-is, made-fits, made-is}
+use Rattle.arithmetic.proofs.exponent.sum.Statement.{statement}
+use Rattle.arithmetic.proofs.exponent.sum.Tie as tie
+
+computed : (c : tie.Start) → let args = c .args in held (args .a) +ℤ held (args .b) ≡ args .a +ℤ args .b
+computed c =
+    let args = c .args in
+    ap (λ (z : ℤ). z +ℤ held (args .b)) (held-is (args .a) (c .pre .0))
+    ∙ ap (λ (z : ℤ). args .a +ℤ z) (held-is (args .b) (c .pre .1 .0))
+
+add-result : tie.Need-add-result
+add-result c = made-fits (computed c) (c .pre .1 .1)
+
+returns : tie.Need-returns
+returns c = made-is (computed c) (c .pre .1 .1)
+
+pub sum-spec : {M : Type 1} → statement M
+sum-spec = tie.close (tie.spec add-result returns)

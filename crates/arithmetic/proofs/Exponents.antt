@@ -1,9 +1,9 @@
 -- Exponents by what they are counted from -l on: sums, differences, order, and what lies in range. Assumes nothing.
 use mathlib.Core.Path.{_≡_, refl, sym, ap, _∙_, subst}
-use mathlib.Core.Bool.{Bool, true, false, true≢false}
+use mathlib.Core.Bool.{true, false, true≢false}
 use Prim.Native.Nat.{ℕ, zero, suc, _+_, _-_, _^_, _≤_, _<_}
 use native.Mathlib.Omega.{arith}
-use lib.Dec.{T, ltb, leb→le, le→leb, nleb→lt}
+use lib.Dec.{T, ltb, leb→le, le→leb}
 use lib.IntN.{ℤ, pos, negsuc, negℤ, natAbs, _+ℤ_, _-ℤ_, subℕ}
 use lib.Signed.{_≤ℤ_, leZ, leZ-yes, nonNeg}
 use mir.Syntax.{w16, w64}
@@ -21,7 +21,8 @@ Counted l (negsuc n) k = k + suc n ≡ l
 
 -- ---- sums and differences
 -- a - b of whole numbers is either
-sub-cases : (P : ℤ → Type 0) (a b : ℕ) → ((n : ℕ) → n + b ≡ a → P (pos n)) → ((n : ℕ) → a + suc n ≡ b → P (negsuc n)) → P (subℕ a b)
+sub-cases : (P : ℤ → Type 0) (a b : ℕ)
+    → ((n : ℕ) → n + b ≡ a → P (pos n)) → ((n : ℕ) → a + suc n ≡ b → P (negsuc n)) → P (subℕ a b)
 sub-cases P a b f g =
     by-test P (ltb a b) (λ e. g (b - suc a) (below (ltb-true a b e))) (λ e. f (a - b) (over (ltb-false a b e)))
   where
@@ -54,7 +55,8 @@ counted-raised l k d a A = counted-from (l + 0) (k + d) l (k + d) (a +ℤ pos d)
 
 pub counted-lowered : (l k d : ℕ) (a : ℤ) → Counted l a (k + d) → Counted l (a -ℤ pos d) k
 counted-lowered l k d a A =
-    counted-from (l + d) (k + d + 0) l k (a -ℤ pos d) (omega arith) (counted-sum l d (k + d) 0 a (negℤ (pos d)) A (counted-negated 0 d (pos d) (omega arith)))
+    let negated = counted-negated 0 d (pos d) (omega arith) in
+    counted-from (l + d) (k + d + 0) l k (a -ℤ pos d) (omega arith) (counted-sum l d (k + d) 0 a (negℤ (pos d)) A negated)
 
 -- from 0 on an exponent is a whole number
 counted-whole : (e : ℤ) (k : ℕ) → Counted 0 e k → e ≡ pos k
@@ -108,7 +110,8 @@ exponent-is l h m k e L H E i j = record {
 }
 
 -- a number that is written out: each test is made
-pub written : {l h : ℕ} {e : ℤ} → T (leZ (negℤ (pos limit)) e) → T (leZ e (pos limit)) → T (leZ (negℤ (pos l)) e) → T (leZ e (pos h)) → Exponent l h e
+pub written : {l h : ℕ} {e : ℤ}
+    → T (leZ (negℤ (pos limit)) e) → T (leZ e (pos limit)) → T (leZ (negℤ (pos l)) e) → T (leZ e (pos h)) → Exponent l h e
 written a b c d = record { in-range = record { least = leZ-yes a; most = leZ-yes b }; least = leZ-yes c; most = leZ-yes d }
 
 -- an exponent of at least -l, by its count from -l on

@@ -138,7 +138,8 @@ module _ (v : ℕ) (few : size v ≤ 128) (term at : ℤ) (P : LastDigit v term 
     jam-same =
         closest-same (v * 2 ^ e) (2 ^ (1074 + k)) v (2 * 2 ^ (d + 1)) (pow-pos (1074 + k)) (mul-pos (pow-pos 1) (pow-pos (d + 1)))
         (mul-assoc v (2 ^ e) (2 * 2 ^ (d + 1))
-        ∙ ap (λ (x : ℕ). v * x) (ap (λ (x : ℕ). 2 ^ e * x) (pow-split 1 (d + 1) (1 + (d + 1)) refl) ∙ pow-split e (1 + (d + 1)) (1074 + k) (omega arith)))
+        ∙ ap (λ (x : ℕ). v * x)
+        (ap (λ (x : ℕ). 2 ^ e * x) (pow-split 1 (d + 1) (1 + (d + 1)) refl) ∙ pow-split e (1 + (d + 1)) (1074 + k) (omega arith)))
         ∙ ap (λ (x : ℕ). closest x (2 * 2 ^ (d + 1))) (sym (split v (d + 1)))
         ∙ closest-jam (2 ^ (d + 1)) (v / 2 ^ (d + 1)) (v % 2 ^ (d + 1)) (mod-lt v (pow-pos (d + 1)))
 

@@ -1,7 +1,7 @@
 -- `mulAdd` by the kinds of its operands, as `mul_add` tells them apart, and by the parts that `decode` gives of finite ones. Assumes nothing.
 use mathlib.Core.Path.{_≡_, refl, sym, ap, _∙_}
 use mathlib.Core.Bool.{Bool, true, false, cond, true≢false, false≢true}
-use Prim.Native.Nat.{ℕ, _+_, _*_, _^_}
+use Prim.Native.Nat.{ℕ, _*_, _^_}
 use native.Mathlib.Nat.{mul-assoc, mul-comm, mul-left-comm, mul-mul-mul-comm, mul-pos}
 use lib.Dec.{eqb}
 use lib.IntN.{ℤ}
@@ -103,7 +103,8 @@ mul-add-of-parts {X} {A} {B} x a b p e hx ha hb P E =
     ∙ ap (λ (y : ℕ). x .m * a .m * y) (sym (pow-add 2 i j))
     ∙ sym (ap (λ (y : ℕ). y * 2 ^ above 2148 e) P ∙ E .value) in
     let addend : b .m * 2 ^ k * 2 ^ 1074 ≡ b .m * 2 ^ above 2148 (b .j) =
-    mul-assoc (b .m) (2 ^ k) (2 ^ 1074) ∙ ap (λ (y : ℕ). b .m * y) (sym (ap (λ (y : ℕ). 2 ^ y) (above-term (b .j) (hb .exponent)) ∙ pow-add 2 k 1074)) in
+    mul-assoc (b .m) (2 ^ k) (2 ^ 1074)
+    ∙ ap (λ (y : ℕ). b .m * y) (sym (ap (λ (y : ℕ). 2 ^ y) (above-term (b .j) (hb .exponent)) ∙ pow-add 2 k 1074)) in
     sym (in-units X A B (x .negative) (a .negative) t (x .m * 2 ^ i) (a .m * 2 ^ j) (b .m * 2 ^ k) (hx .value) (ha .value) (hb .value)
     ∙ ap (λ (y : ℕ). sum binary64 s y t (b .m * 2 ^ k * 2 ^ 1074) (2 ^ 2148)) product
     ∙ ap (λ (y : ℕ). sum binary64 s (val p * 2 ^ above 2148 e) t y (2 ^ 2148)) addend)

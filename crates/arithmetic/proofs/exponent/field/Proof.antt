@@ -1,6 +1,6 @@
 -- `exponent::field` meets its contract: a field of 11 bits is in range. Assumes nothing.
 use mathlib.Core.Path.{refl, sym, subst}
-use Prim.Native.Nat.{_+_, _/_, _≤_, _^_}
+use Prim.Native.Nat.{_/_, _^_}
 use native.Mathlib.Omega.{arith}
 use lib.IntN.{pos}
 use lib.Bits.{bitAnd, mask-lt}

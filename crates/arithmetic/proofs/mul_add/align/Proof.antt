@@ -72,7 +72,8 @@ lowered-requires-2 c κs =
     let at-far = c .before .before in
     let at-distance = at-far .before in
     let s = at-distance .before .before in
-    lowered-asks (s .args .ep) (product-in-range (s .args .p) (s .pre)) 20 (lit≤ tt) (product-lowered (s .args .p) (s .pre) _ (apart-below at-distance) (at-far .if3 .left) .in-range)
+    let lowered = product-lowered (s .args .p) (s .pre) _ (apart-below at-distance) (at-far .if3 .left) in
+    lowered-asks (s .args .ep) (product-in-range (s .args .p) (s .pre)) 20 (lit≤ tt) (lowered .in-range)
 
 returns : tie.Need-returns
 returns c =

@@ -3,7 +3,6 @@ use mathlib.Core.Path.{refl}
 use mathlib.Core.Logic.{inl, inr}
 use Rattle.arithmetic.proofs.Exponents.{written, sum-asks, sum-gives}
 use Rattle.arithmetic.proofs.MulAddAlign.{product-exponent-zero, product-term, product-exponent-sum}
-use borrow.Author.Needs.{needs}
 use Rattle.arithmetic.proofs.mul_add.product_exponent.Statement.{statement}
 use Rattle.arithmetic.proofs.mul_add.product_exponent.Tie as tie
 

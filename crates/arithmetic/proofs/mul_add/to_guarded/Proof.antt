@@ -36,7 +36,10 @@ raised-requires c κs =
     (end-in-range _ (start .args .e) (start .pre) _ digits (few start))
 
 -- the exponent of the last digit that is kept
-last : (c : tie.Then2) → let start = c .before .before .before .before in LastDigit (val (start .args .v)) (start .args .e) (end (c .before) -ℤ pos 53)
+last : (c : tie.Then2)
+    → let at-digits = c .before .before .before in
+    let args = at-digits .before .args in
+    LastDigit (val (args .v)) (args .e) (end (c .before) -ℤ pos 53)
 last c =
     let at-some = c .before .before in
     let at-digits = at-some .before in
@@ -57,8 +60,8 @@ last-is c =
 
 to-guarded-above-requires : tie.Need-to-guarded-above-requires
 to-guarded-above-requires c κs =
-    let at-digits = c .before .before .before .before in
-    let start = at-digits .before in
+    let at-raised = c .before .before in
+    let start = at-raised .before .before .before in
     rw (held-is (start .args .e) (start .pre .in-range), last-is c) (last (c .before))
 
 to-guarded-above-requires-2 : tie.Need-to-guarded-above-requires-2
@@ -77,8 +80,9 @@ returns c =
     guarded-zero (val (a .v)) _ (sym (at-digits .digits .ensures) ∙ c .if1 .taken) _ (written tt tt tt tt) refl
 
 -- what is ensured of the exponent that was handed over
-of-exponent : (c : tie.Start) {r : _} → IsGuarded (val (c .args .v) * 2 ^ above 2148 (held (c .args .e))) r → IsGuarded (val (c .args .v) * 2 ^ above 2148 (c .args .e)) r
-of-exponent c {r} h = subst (λ (z : ℤ). IsGuarded (val (c .args .v) * 2 ^ above 2148 z) r) (held-is (c .args .e) (c .pre .in-range)) h
+of-exponent : (c : tie.Start) {r : _} → let a = c .args in IsGuarded (val (a .v) * 2 ^ above 2148 (held (a .e))) r
+    → IsGuarded (val (a .v) * 2 ^ above 2148 (a .e)) r
+of-exponent c {r} h = let a = c .args in subst (λ (z : ℤ). IsGuarded (val (a .v) * 2 ^ above 2148 z) r) (held-is (a .e) (c .pre .in-range)) h
 
 returns-2 : tie.Need-returns-2
 returns-2 c =

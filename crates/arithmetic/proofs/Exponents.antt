@@ -134,6 +134,13 @@ counted-most {l} {h} (negsuc n) E = omega arith
 pub whole-in-range : (n : ℕ) → n ≤ limit → InRange (pos n)
 whole-in-range n h = in-range-is 0 n (pos n) (omega arith) (omega arith) (omega arith)
 
+pub whole-most : (n : ℕ) → InRange (pos n) → n ≤ limit
+whole-most n R = leb→le n limit (R .most .le)
+
+-- fewer digits than in range
+pub whole-fewer : (n d : ℕ) → InRange (pos n) → InRange (pos (n - d))
+whole-fewer n d R = let h = whole-most n R in whole-in-range (n - d) (omega arith)
+
 -- ---- 16 bits hold an exponent in range: what is read back from them is it
 pub range-fits : (e : ℤ) → InRange e → SFits w16 e
 range-fits (pos n) R = let i = leb→le n limit (R .most .le) in record { sfits = omega arith }

@@ -212,12 +212,6 @@ module _ (p : Pair) {ep : ℤ} {m : ℕ} {em : ℤ} (o : Operands (val p) ep m e
   pub below-gives : y < x → (d : ℕ) → pos d ≡ held ep -ℤ held em → d + y ≡ x
   below-gives h = distance-gives 2148 x y ep em product-in-range addend-in-range at-x at-y (le-of-lt h)
 
-  pub above-jam : (d : ℕ) → d + x ≡ y → d - 64 < 8192
-  above-jam d E = let a = y-most in omega arith
-
-  pub below-jam : (d : ℕ) → d + y ≡ x → d - 20 < 8192
-  below-jam d E = let a = x-most in omega arith
-
   -- within a pair: the product shifted by 20 at most, and the addend by 64
   pub product-fits : (d : ℕ) → d ≤ 20 → val p * 2 ^ d < 2 ^ 128
   product-fits d h = lt-of-lt-of-le (shift-lt (val p) 106 d 20 (o .product-small) h) (lit≤ tt)

@@ -5,7 +5,7 @@ use Prim.Native.Nat.{ℕ, suc, _+_, _-_, _*_, _/_, _^_, _<_}
 use native.Mathlib.Nat.{add-comm}
 use native.Mathlib.Omega.{arith}
 use lib.Dec.{T, leb, lit≤}
-use lib.IntN.{ℤ, pos, _-ℤ_}
+use lib.IntN.{ℤ, pos, negsuc, _+ℤ_}
 use lib.Pow.{field}
 use lib.Bits.{bitAnd, and-mask, mask-lt}
 use lib.Ieee.{Float, binary64, fits, ofFields, toBits}
@@ -15,7 +15,7 @@ use lib.Ieee.Bits.{ofBits-toBits}
 use Rattle.arithmetic.specs.Internal.Exponent.{above}
 use Rattle.arithmetic.specs.Internal.MulAdd.{OperandExponent, Decoded}
 use Rattle.arithmetic.specs.Laws.Patterns.{ofBits-is, read-zero, read-more, finite-field}
-use Rattle.arithmetic.proofs.Exponents.{Counted, counted-lowered, counted-is, exponent-is}
+use Rattle.arithmetic.proofs.Exponents.{Counted, counted-sum, counted-from, counted-is, exponent-is}
 
 module _ (x : Float) (F : T (fits binary64 x)) (h : T (finite x)) where
   abbrev b : ℕ
@@ -58,13 +58,13 @@ module _ (x : Float) (F : T (fits binary64 x)) (h : T (finite x)) where
         lead = λ h. omega arith;
       }
 
-  -- of any other field the exponent is 1075 less
+  -- of any other field the exponent is -1075 more
   module _ (n : f ≡ 0 → ⊥) where
     abbrev j : ℤ
-    j = pos f -ℤ pos 1075
+    j = pos f +ℤ negsuc 1074
 
     counted-field : Counted 1074 j (f - 1)
-    counted-field = counted-lowered 1074 (f - 1) 1075 (pos f) (omega arith)
+    counted-field = counted-from 1075 (f + 0) 1074 (f - 1) j (omega arith) (counted-sum 0 1075 f 0 (pos f) (negsuc 1074) (omega arith) refl)
 
     pub field-exponent : OperandExponent j
     field-exponent = let l = field-lt in exponent-is 1074 971 1074 (f - 1) j (lit≤ tt) (lit≤ tt) counted-field (omega arith) (omega arith)

@@ -97,9 +97,6 @@ module _ (v : ℕ) (few : size v ≤ 128) (term at : ℤ) (P : LastDigit v term 
   abbrev k : ℕ
   k = above 1074 at
 
-  low : e ≤ 4090
-  low = counted-most term (P .term)
-
   -- m is both halves of the result, of which the upper is 0
   result : (h l m : ℕ) → h * 2 ^ 64 + l ≡ m → m < 2 ^ 55 → (0 < k → 2 ^ 54 ≤ m) → closest (v * 2 ^ e) (2 ^ (1074 + k)) ≡ closest m 4
       → IsGuarded (v * 2 ^ e) (record { m = l; k = at })
@@ -116,9 +113,6 @@ module _ (v : ℕ) (few : size v ≤ 128) (term at : ℤ) (P : LastDigit v term 
 
   -- ---- with digits below the guard and the sticky one, which are jammed
   module _ (d : ℕ) (D : d + e ≡ 1072 + k) where
-    pub jam-by : d < 8192
-    jam-by = let l = low in omega arith
-
     jam-short : jammed v d < 2 ^ 55
     jam-short = twice (v / 2 ^ (d + 1)) (v % 2 ^ (d + 1)) (shr-lt 54 (d + 1) (lt-of-lt-of-le (size-lt v) (pow-mono {j = 54 + (d + 1)} (omega arith))))
       where

@@ -9,7 +9,7 @@ ghost use Rattle.arithmetic.specs.Internal.Exponent.{InRange};
 use super::format::EXPONENT_FIELD;
 use super::format::FRACTION_DIGITS;
 
-// a + b.
+// The exponent of the product of 2^a and 2^b.
 pub(crate) fn sum(a: i16, b: i16) -> i16
     requires { ⌜ InRange a ⌝ ∗ ⌜ InRange b ⌝ ∗ ⌜ InRange (a +ℤ b) ⌝ }
     ensures { λ r. ⌜ (r ≡ a +ℤ b) × InRange r ⌝ }
@@ -17,7 +17,7 @@ pub(crate) fn sum(a: i16, b: i16) -> i16
     a + b
 }
 
-// a + n.
+// The exponent n digits above a.
 pub(crate) fn raised(a: i16, n: u64) -> i16
     requires { ⌜ InRange a ⌝ ∗ ⌜ InRange (pos n) ⌝ ∗ ⌜ InRange (a +ℤ pos n) ⌝ }
     ensures { λ r. ⌜ (r ≡ a +ℤ pos n) × InRange r ⌝ }
@@ -25,7 +25,7 @@ pub(crate) fn raised(a: i16, n: u64) -> i16
     a + (n as i16)
 }
 
-// a - n.
+// The exponent n digits below a.
 pub(crate) fn lowered(a: i16, n: u64) -> i16
     requires { ⌜ InRange a ⌝ ∗ ⌜ InRange (pos n) ⌝ ∗ ⌜ InRange (a -ℤ pos n) ⌝ }
     ensures { λ r. ⌜ (r ≡ a -ℤ pos n) × InRange r ⌝ }
@@ -33,7 +33,7 @@ pub(crate) fn lowered(a: i16, n: u64) -> i16
     a - (n as i16)
 }
 
-// How far a lies above b.
+// How many digits a lies above b, to shift by. The difference is taken in 16 bits.
 pub(crate) fn distance(a: i16, b: i16) -> u64
     requires { ⌜ InRange a ⌝ ∗ ⌜ InRange b ⌝ ∗ ⌜ InRange (a -ℤ b) ⌝ ∗ ⌜ b ≤ℤ a ⌝ }
     ensures { λ r. ⌜ (pos r ≡ a -ℤ b) × InRange (pos r) ⌝ }

@@ -8,8 +8,12 @@ pub(crate) const FRACTION_DIGITS: u64 = 52;
 // The smallest value above 0 is 2^LEAST_EXPONENT.
 pub(crate) const LEAST_EXPONENT: i16 = -1074;
 
-// The smallest normal value is half of 2^MIN_EXP: LEAST_EXPONENT + PRECISION.
+// 2^MIN_EXP is the least power of two above the smallest normal value, as Rust's f64::MIN_EXP has it. It is
+// LEAST_EXPONENT + PRECISION.
 pub(crate) const MIN_EXP: i16 = -1021;
+
+// The last digit of a normal value with this field of the exponent is at 2^(field + FIELD_OFFSET): LEAST_EXPONENT - 1.
+pub(crate) const FIELD_OFFSET: i16 = -1075;
 
 // The exponent's field of 1.
 pub(crate) const BIAS: u64 = 1023;

@@ -14,6 +14,7 @@ ghost use Rattle.arithmetic.specs.Internal.MulAdd.{Decoded, ProductExpon
 ghost use Rattle.arithmetic.specs.MulAdd.{mulAdd};
 use super::basic::is_finite;
 use super::exponent;
+use super::format::FIELD_OFFSET;
 use super::format::FRACTION_DIGITS;
 use super::format::FRACTION_FIELD;
 use super::format::INFINITY;
@@ -22,7 +23,6 @@ use super::format::MIN_EXP;
 use super::format::PRECISION;
 use super::format::SIGN;
 use super::format::TWO_TO_52;
-use super::format::WHOLE_FIELD;
 use super::pair;
 use super::pair::Pair;
 use super::pair::WORD;
@@ -81,7 +81,7 @@ fn decode(x: f64) -> Parts
         Parts {
             negative,
             m: digits + TWO_TO_52,
-            j: exponent::lowered(field, WHOLE_FIELD),
+            j: exponent::sum(field, FIELD_OFFSET),
         }
     }
 }
@@ -191,8 +191,8 @@ fn with_sign(negative: bool, magnitude: u64) -> f64
     }
 }
 
-// m / 4 * 2^k, rounded to a whole number times 2^k, or to an infinity. A carry out of the significand goes into the
-// exponent's field.
+// m / 4 * 2^k, rounded to a whole number times 2^k, or to an infinity. The digits from LEAST_EXPONENT to k are the
+// exponent's field, less 1 for the leading digit of a normal value; a carry out of the significand goes there too.
 fn pack(negative: bool, m: u64, k: i16) -> f64
     requires { ⌜ m < 2 ^ 55 ⌝ ∗ ⌜ KeptExponent k ⌝ ∗ ⌜ (0 < above 1074 k → 2 ^ 54 ≤ m) ⌝ }
     ensures { λ r. ⌜ r ≡ Ieee.units binary64 negative (closest m 4) (above 1074 k) ⌝ }

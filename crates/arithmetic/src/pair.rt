@@ -4,6 +4,8 @@ ghost use mathlib.Core.Path.{_≡_};
 ghost use Prim.Native.Nat.{_+_, _-_, _*_, _/_, _^_, _≤_, _<_};
 ghost use lib.Dec.{ltb};
 ghost use lib.Ieee as Ieee;
+ghost use lib.IntN.{pos};
+ghost use Rattle.arithmetic.specs.Internal.Exponent.{InRange};
 ghost use Rattle.arithmetic.specs.Internal.Pair.{val, jammed};
 
 // Binary digits of one half of a pair, and of both.
@@ -142,7 +144,7 @@ pub(crate) fn cleared(a: Pair, d: u64) -> Pair
 
 // a / 2^d, cut to a whole number, whose last bit is set too where anything but 0 was cut.
 pub(crate) fn jam(a: Pair, d: u64) -> Pair
-    requires { ⌜ d < 8192 ⌝ }
+    requires { ⌜ InRange (pos d) ⌝ }
     ensures { λ r. ⌜ val r ≡ jammed (val a) d ⌝ }
 {
     let r = up(down(a, d + 1), 1);

@@ -3,10 +3,10 @@ use Prim.Native.Nat.{ℕ, suc, _+_, _-_}
 use lib.IntN.{ℤ, pos, negsuc, negℤ}
 use lib.Signed.{_≤ℤ_}
 
--- in range: each exponent that is met lies between -4000 and 4000
 abbrev pub limit : ℕ
 limit = 4000
 
+-- in range: each exponent that is met lies between -4000 and 4000
 pub record InRange (e : ℤ) : Type 0 where
   pub least : negℤ (pos limit) ≤ℤ e
   pub most : e ≤ℤ pos limit
@@ -17,7 +17,7 @@ pub record Exponent (l h : ℕ) (e : ℤ) : Type 0 where
   pub least : negℤ (pos l) ≤ℤ e
   pub most : e ≤ℤ pos h
 
--- e counted from -l on: e + l, for an e from -l on
+-- e counted from -l on: e + l for an e from -l on, and 0 below
 abbrev pub above : ℕ → ℤ → ℕ
 above l (pos k) = k + l
 above l (negsuc k) = l - suc k

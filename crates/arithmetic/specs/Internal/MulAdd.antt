@@ -21,7 +21,7 @@ OperandExponent = Exponent 1074 971
 abbrev pub TermExponent : ℤ → Type 0
 TermExponent = Exponent 2148 1942
 
--- of the last digit that the rounded sum keeps: up to 1942 + 128 - 53, for a sum of 128 digits
+-- of the last digit that the rounded sum keeps: at most 1942 + 128 - 53, for a sum of 128 digits
 abbrev pub KeptExponent : ℤ → Type 0
 KeptExponent = Exponent 1074 2017
 

@@ -4,9 +4,9 @@ use Prim.Native.Nat.{_+_}
 use native.Mathlib.Nat.{le-refl}
 use lib.Dec.{lit≤}
 use Rattle.arithmetic.specs.Internal.Exponent.{above}
-use Rattle.arithmetic.proofs.Exponents.{held-is, lowered-asks, lowered-gives}
-use Rattle.arithmetic.proofs.MulAddAlign.{product-in-range, addend-in-range, above-order, above-asks, above-gives, above-jam}
-use Rattle.arithmetic.proofs.MulAddAlign.{below-order, below-asks, below-gives, below-jam, addend-lowered, product-lowered}
+use Rattle.arithmetic.proofs.Exponents.{held-is, whole-fewer, lowered-asks, lowered-gives}
+use Rattle.arithmetic.proofs.MulAddAlign.{product-in-range, addend-in-range, above-order, above-asks, above-gives}
+use Rattle.arithmetic.proofs.MulAddAlign.{below-order, below-asks, below-gives, addend-lowered, product-lowered}
 use Rattle.arithmetic.proofs.MulAddAlign.{product-fits, addend-fits, near-above, far-above, near-below, far-below}
 use borrow.Author.Needs.{needs}
 use Rattle.arithmetic.proofs.mul_add.align.Statement.{statement}
@@ -51,15 +51,10 @@ up-requires-3 c κs =
     (search needs, product-fits (s .args .p) (s .pre) 20 (le-refl 20))
 
 jam-requires : tie.Need-jam-requires
-jam-requires c κs =
-    let s = c .before .before .before in
-    above-jam (s .args .p) (s .pre) _ (apart-above (c .before))
+jam-requires c κs = whole-fewer _ 64 (c .before .distance .ensures .1)
 
 jam-requires-2 : tie.Need-jam-requires-2
-jam-requires-2 c κs =
-    let at-distance = c .before .before in
-    let s = at-distance .before .before in
-    below-jam (s .args .p) (s .pre) _ (apart-below at-distance)
+jam-requires-2 c κs = let at-distance = c .before .before in whole-fewer _ 20 (at-distance .distance2 .ensures .1)
 
 lowered-requires : tie.Need-lowered-requires
 lowered-requires c κs =

@@ -8,7 +8,7 @@ use Rattle.arithmetic.specs.Internal.Exponent.{above}
 use Rattle.arithmetic.proofs.Pairs.{val-size}
 use Rattle.arithmetic.proofs.Exponents.{held-is, lowered-asks}
 use Rattle.arithmetic.proofs.MulAddGuarded.{sticky-in-range, jam-order, jam-asks, jam-gives, up-order, up-asks, up-gives}
-use Rattle.arithmetic.proofs.MulAddGuarded.{jam-by, guarded-jam, up-by, up-fits, guarded-up}
+use Rattle.arithmetic.proofs.MulAddGuarded.{guarded-jam, up-by, up-fits, guarded-up}
 use borrow.Author.Needs.{needs}
 use Rattle.arithmetic.proofs.mul_add.to_guarded_above.Statement.{statement}
 use Rattle.arithmetic.proofs.mul_add.to_guarded_above.Tie as tie
@@ -47,9 +47,7 @@ appended c =
     up-gives _ (few s) _ _ (s .pre) _ sticky (up-order _ (few s) _ _ (s .pre) _ sticky (c .before .if1 .left)) _ (c .distance2 .ensures .0)
 
 jam-requires : tie.Need-jam-requires
-jam-requires c κs =
-    let s = c .before .before .before in
-    jam-by _ (few s) _ _ (s .pre) _ (jammed c)
+jam-requires c κs = c .distance .ensures .1
 
 up-requires : tie.Need-up-requires
 up-requires c κs =

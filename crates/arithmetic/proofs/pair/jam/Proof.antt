@@ -2,15 +2,30 @@
 use mathlib.Core.Path.{_≡_, sym, ap, _∙_, subst}
 use Prim.Native.Nat.{ℕ, _+_, _*_, _/_, _^_, _≤_, _<_}
 use native.Mathlib.Nat.{lt-of-le-of-lt}
+use native.Mathlib.Omega.{arith}
 use borrow.Author.Needs.{needs}
 use borrow.Author.Tests.{ltb-true, ltb-false}
+use Rattle.arithmetic.specs.Internal.Exponent.{limit}
 use Rattle.arithmetic.specs.Internal.Pair.{val}
+use Rattle.arithmetic.proofs.Exponents.{whole-most}
 use Rattle.arithmetic.proofs.Pairs.{val-lt, twice-le, jam-room, jam-some, jam-none}
 use Rattle.arithmetic.proofs.pair.jam.Statement.{statement}
 use Rattle.arithmetic.proofs.pair.jam.Tie as tie
 
 small : (c : tie.Start) → val (c .args .a) < 2 ^ 128
 small c = val-lt (c .args .a) (search needs) (search needs)
+
+next-fits : (c : tie.Start) → c .args .d + 1 < 2 ^ 64
+next-fits c = go (c .args .d) (whole-most (c .args .d) (c .pre))
+  where
+    go : (n : ℕ) → n ≤ limit → n + 1 < 2 ^ 64
+    go n h = omega arith
+
+add-down : tie.Need-add-down
+add-down c = record { fits = next-fits c }
+
+add-cleared : tie.Need-add-cleared
+add-cleared c = record { fits = next-fits (c .before .before) }
 
 up-requires : tie.Need-up-requires
 up-requires c κs =
@@ -56,5 +71,5 @@ returns-2 c =
 pub jam-spec : {M : Type 1} → statement M
 jam-spec =
     tie.close
-    (tie.spec (λ c. search needs) (λ c κs. search needs) up-requires (λ c. search needs) (λ c κs. search needs)
+    (tie.spec add-down (λ c κs. search needs) up-requires add-cleared (λ c κs. search needs)
     (λ c κs. search needs) add-t8 returns returns-2)

@@ -212,16 +212,16 @@ module _ (p : Pair) {ep : ℤ} {m : ℕ} {em : ℤ} (o : Operands (val p) ep m e
   pub below-gives : y < x → (d : ℕ) → pos d ≡ held ep -ℤ held em → d + y ≡ x
   below-gives h = distance-gives 2148 x y ep em product-in-range addend-in-range at-x at-y (le-of-lt h)
 
-  -- within a pair: the product shifted by 20 at most, and the addend by 64
+  -- within a pair: the product shifted by 20 at most, and the addend by less than 64
   pub product-fits : (d : ℕ) → d ≤ 20 → val p * 2 ^ d < 2 ^ 128
   product-fits d h = lt-of-lt-of-le (shift-lt (val p) 106 d 20 (o .product-small) h) (lit≤ tt)
 
-  pub addend-fits : (d : ℕ) → d ≤ 64 → (0 * 2 ^ 64 + m) * 2 ^ d < 2 ^ 128
+  pub addend-fits : (d : ℕ) → d < 64 → (0 * 2 ^ 64 + m) * 2 ^ d < 2 ^ 128
   addend-fits d h =
-      subst (λ (n : ℕ). n * 2 ^ d < 2 ^ 128) (sym (flat m)) (lt-of-lt-of-le (shift-lt m 53 d 64 (o .addend-small) h) (lit≤ tt))
+      subst (λ (n : ℕ). n * 2 ^ d < 2 ^ 128) (sym (flat m)) (lt-of-lt-of-le (shift-lt m 53 d 64 (o .addend-small) (le-of-lt h)) (lit≤ tt))
 
   -- the addend lies above, and is shifted up
-  pub near-above : (d : ℕ) → d + x ≡ y → d ≤ 64 → (b : Pair) → val b ≡ (0 * 2 ^ 64 + m) * 2 ^ d
+  pub near-above : (d : ℕ) → d + x ≡ y → d < 64 → (b : Pair) → val b ≡ (0 * 2 ^ 64 + m) * 2 ^ d
       → Aligned (val p) ep m em (record { a = p; b = b; e = ep })
   near-above d E h b v =
       let w : val b ≡ m * 2 ^ d = v ∙ ap (λ (n : ℕ). n * 2 ^ d) (flat m) in
@@ -229,7 +229,7 @@ module _ (p : Pair) {ep : ℤ} {m : ℕ} {em : ℤ} (o : Operands (val p) ep m e
         same = λ s t.
             ap (λ (n : ℕ). sum binary64 s (val p * 2 ^ x) t n (2 ^ 2148)) (shifted m d x y E ∙ ap (λ (n : ℕ). n * 2 ^ x) (sym w));
         first-small = lt-of-lt-of-le (o .product-small) (lit≤ tt);
-        second-small = subst (λ (n : ℕ). n < 2 ^ 127) (sym w) (lt-of-lt-of-le (shift-lt m 53 d 64 (o .addend-small) h) (lit≤ tt));
+        second-small = subst (λ (n : ℕ). n < 2 ^ 127) (sym w) (lt-of-lt-of-le (shift-lt m 53 d 64 (o .addend-small) (le-of-lt h)) (lit≤ tt));
         exponent = o .product-exponent;
       }
 
@@ -245,7 +245,7 @@ module _ (p : Pair) {ep : ℤ} {m : ℕ} {em : ℤ} (o : Operands (val p) ep m e
       let a = y-most in
       exponent-is 2148 1942 2148 (y - 64) (em -ℤ pos 64) (lit≤ tt) (lit≤ tt) counted-y (omega arith) (omega arith)
 
-  pub far-above : (d : ℕ) → d + x ≡ y → 64 < d → (a : Pair) → val a ≡ jammed (val p) (d - 64)
+  pub far-above : (d : ℕ) → d + x ≡ y → 64 ≤ d → (a : Pair) → val a ≡ jammed (val p) (d - 64)
       → Aligned (val p) ep m em (record { a = a; b = record { hi = m; lo = 0 }; e = em -ℤ pos 64 })
   far-above d E h a v = record {
     same = λ s t. rw (v, counted-is 2148 (y - 64) (em -ℤ pos 64) counted-y)

@@ -2,7 +2,8 @@
 -- digits that the result keeps, a guard digit and a sticky one, rounds as it does. Assumes nothing.
 use mathlib.Core.Path.{_≡_, refl, sym, ap, _∙_, subst}
 use Prim.Native.Nat.{ℕ, _+_, _-_, _*_, _/_, _%_, _^_, _≤_, _<_, min}
-use native.Mathlib.Nat.{le-trans, le-of-eq, le-of-lt, lt-of-lt-of-le, zero-mul, mul-assoc, mul-le-mul-right, mul-pos, mod-lt, le-div-iff-mul-le}
+use native.Mathlib.Nat.{le-trans, le-of-eq, le-of-lt, lt-of-le-of-lt, lt-of-lt-of-le, le-div-iff-mul-le}
+use native.Mathlib.Nat.{mod-eq-of-lt, mul-one, mul-le-mul-left, zero-mul, mul-assoc, mul-le-mul-right, mul-pos, mod-lt}
 use native.Mathlib.Omega.{arith}
 use lib.Arith.{lt-one}
 use lib.Dec.{lit≤, lit<}
@@ -21,6 +22,7 @@ use Rattle.arithmetic.specs.Laws.Numbers.{pow-split, size-mul}
 use Rattle.arithmetic.proofs.Exponents.{Counted, counted-from, counted-raised, counted-lowered, counted-order, counted-order-not}
 use Rattle.arithmetic.proofs.Exponents.{counted, counted-is, counted-most, in-range-is, exponent-is}
 use Rattle.arithmetic.proofs.Exponents.{held, held-is, Asked, test-passed, test-failed, distance-asks, distance-gives, lowered-gives}
+use Rattle.arithmetic.proofs.Pairs.{flat}
 use Rattle.arithmetic.proofs.RoundDropped.{closest-jam, size-div, round-at}
 
 -- ---- what is guarded rounds as the number that it stands for, n units of 2 ^ -2148
@@ -142,14 +144,18 @@ module _ (v : ℕ) (few : size v ≤ 128) (term at : ℤ) (P : LastDigit v term 
 
   -- ---- with none, and zeros that come in below
   module _ (u : ℕ) (U : u + (1072 + k) ≡ e) where
-    pub up-by : u < 128
-    up-by = omega arith
+    pub up-by : u < 64
+    up-by = let i = P .is in let l = P .some in omega arith
 
     up-short : v * 2 ^ u < 2 ^ 55
     up-short = lt-of-lt-of-le (shl-lt (size v) u (size-lt v)) (pow-mono {j = 55} (omega arith))
 
-    pub up-fits : v * 2 ^ u < 2 ^ 128
-    up-fits = lt-of-lt-of-le up-short (lit≤ tt)
+    -- v is its lower half
+    low-half : (h l : ℕ) → h * 2 ^ 64 + l ≡ v → l * 2 ^ u % 2 ^ 64 ≡ v * 2 ^ u
+    low-half h l e =
+        let few = lt-of-le-of-lt (le-trans (le-of-eq (sym (mul-one v))) (mul-le-mul-left v (pow-pos u))) up-short in
+        let is : l ≡ v = omega arith in
+        ap (λ (x : ℕ). x * 2 ^ u % 2 ^ 64) is ∙ mod-eq-of-lt (lt-of-lt-of-le up-short (lit≤ tt))
 
     up-lead : 0 < k → 2 ^ 54 ≤ v * 2 ^ u
     up-lead i = le-trans (le-of-eq (sym (pow-split (size v - 1) u 54 (omega arith)))) (mul-le-mul-right (2 ^ u) (size-reaches v (size v - 1) (omega arith)))
@@ -161,8 +167,8 @@ module _ (v : ℕ) (few : size v ≤ 128) (term at : ℤ) (P : LastDigit v term 
         ∙ ap (λ (x : ℕ). v * x) (pow-split e 2 (e + 2) refl ∙ sym (pow-split u (1074 + k) (e + 2) (omega arith)))
         ∙ sym (mul-assoc v (2 ^ u) (2 ^ (1074 + k))))
 
-    pub guarded-up : (h l : ℕ) → h * 2 ^ 64 + l ≡ v * 2 ^ u → IsGuarded (v * 2 ^ e) (record { m = l; k = at })
-    guarded-up h l a = result h l (v * 2 ^ u) a up-short up-lead up-same
+    pub guarded-up : (h l : ℕ) → h * 2 ^ 64 + l ≡ v → IsGuarded (v * 2 ^ e) (record { m = l * 2 ^ u % 2 ^ 64; k = at })
+    guarded-up h l a = result 0 (l * 2 ^ u % 2 ^ 64) (v * 2 ^ u) (flat (l * 2 ^ u % 2 ^ 64) ∙ low-half h l a) up-short up-lead up-same
 
 -- ---- by how much: from v's exponent to r, the one of the sticky digit, or back
 module _ (v : ℕ) (few : size v ≤ 128) (e at : ℤ) (P : LastDigit v e at) where

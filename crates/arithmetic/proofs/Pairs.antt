@@ -4,14 +4,18 @@ use mathlib.Core.Path.{_≡_, refl, sym, ap, _∙_, subst}
 use mathlib.Core.Logic.{_⊎_, inl, inr}
 use Prim.Native.Nat.{ℕ, suc, _+_, _-_, _*_, _/_, _%_, _^_, _≤_, _<_}
 use native.Mathlib.Nat.{le-trans, le-add-right, le-of-eq, le-of-lt, lt-of-lt-of-le, lt-of-le-of-lt, eq-zero-or-pos}
-use native.Mathlib.Nat.{add-mul, mul-add, zero-mul, one-mul, mul-one, mul-comm, mul-assoc, mul-left-comm, mul-right-comm}
-use native.Mathlib.Nat.{mul-le-mul-right, mul-le-mul-left, mul-pos, lt-of-mul-lt-mul-right, mod-lt, mod-eq-of-lt, mod-eq-sub-mod, mul-mod-left}
+use native.Mathlib.Nat.{add-zero, add-mul, mul-add, zero-mul, one-mul, mul-one, mul-comm, mul-assoc, mul-left-comm, mul-right-comm}
+use native.Mathlib.Nat.{mul-le-mul-right, mul-le-mul-left, mul-pos, lt-of-mul-lt-mul-right}
+use native.Mathlib.Nat.{mod-lt, mod-eq-of-lt, mod-eq-sub-mod, mod-one, mul-mod-left, mul-add-mod-self-right}
 use native.Mathlib.Nat.{div-one, div-eq-of-lt, div-mul-le-self, div-add-mod', div-div-eq-div-mul, div-lt-iff-lt-mul, mul-div-cancel}
 use native.Mathlib.Numerals.{add-one}
 use native.Mathlib.Omega.{arith}
 use lib.Dec.{ltb, lit≤}
+use mathlib.Core.Bool.{true, false}
+use borrow.Author.Tests.{lt-ltb}
 use lib.Arith.{le-zero, digits-lt, digits-div, mod-mul}
-use lib.Pow.{pow-add, pow-pos, pow-mono, shr-lt, split}
+use lib.Pow.{pow-add, pow-pos, pow-mono, shr-lt, split, mod-pow-add}
+use lib.Pow as Pow
 use lib.Bits.{bitAnd, and-mask, mask-lt}
 use lib.Count.{leadingZeros, leading-of-zero, leading-top}
 use lib.Ieee.{size}
@@ -19,7 +23,7 @@ use lib.Ieee.Digits.{size-le}
 use lib.Ieee.Nearest.{div-same}
 use Rattle.arithmetic.specs.declared.pair.Pair.{Pair}
 use Rattle.arithmetic.specs.Internal.Pair.{val, jammed}
-use Rattle.arithmetic.specs.Laws.Numbers.{same-ltb, lt-or-le, pow-split, mul-lt-pow, size-is}
+use Rattle.arithmetic.specs.Laws.Numbers.{same-ltb, ltb-mul, lt-or-le, pow-split, mul-lt-pow, size-is}
 
 -- (n + 1) * K
 next : (n K : ℕ) → (n + 1) * K ≡ n * K + K
@@ -276,15 +280,55 @@ module _ (a : Pair) (d : ℕ) (A : a .lo < 2 ^ 64) where
         ∙ down-far (2 ^ 64) (2 ^ (d - 64)) (a .hi) (a .lo) (pow-pos 64) A
         ∙ ap (λ (x : ℕ). val a / x) (pow-over d h)
 
--- ---- the last d bits cleared; all of them, from 128 on
+-- ---- nothing is left from 128 on
 pub none-left : (n d : ℕ) → n < 2 ^ 128 → 128 ≤ d → 0 ≡ n / 2 ^ d
 none-left n d h g = sym (div-eq-of-lt (lt-of-lt-of-le h (pow-mono g)))
 
-pub cleared-fits : (n d : ℕ) → n < 2 ^ 128 → n / 2 ^ d * 2 ^ d < 2 ^ 128
-cleared-fits n d h = lt-of-le-of-lt (div-mul-le-self n (2 ^ d)) h
+-- ---- whether one of the last d bits is set
+-- x shifted up by the rest of a word has no bit above them
+low-shifted : (E F x : ℕ) → 0 < E → 0 < F → x * E % (F * E) ≡ x % F * E
+low-shifted E F x P Q =
+    mod-mul (x * E) Q P
+    ∙ ap (λ (y : ℕ). y + x * E % E) (ap (λ (y : ℕ). y % F * E) (mul-div-cancel x P))
+    ∙ ap (λ (y : ℕ). x % F * E + y) (mul-mod-left x E) ∙ add-zero (x % F * E)
 
-pub all-cleared : (n d : ℕ) → n < 2 ^ 128 → 128 ≤ d → 0 ≡ n / 2 ^ d * 2 ^ d
-all-cleared n d h g = sym (ap (λ (x : ℕ). x * 2 ^ d) (sym (none-left n d h g)) ∙ zero-mul (2 ^ d))
+ltb-scaled : (n k : ℕ) → 0 < k → ltb 0 (n * k) ≡ ltb 0 n
+ltb-scaled n k K = ap (λ (z : ℕ). ltb z (n * k)) (sym (zero-mul k)) ∙ ltb-mul 0 n k K
+
+pub low-none : (n d : ℕ) → d ≡ 0 → false ≡ ltb 0 (n % 2 ^ d)
+low-none n d e = sym (ap (λ (x : ℕ). ltb 0 (n % 2 ^ x)) e ∙ ap (ltb 0) (mod-one n))
+
+pub low-some : (n d : ℕ) → d < 64 → ltb 0 (n * 2 ^ (64 - d) % 2 ^ 64) ≡ ltb 0 (n % 2 ^ d)
+low-some n d h =
+    ap (λ (x : ℕ). ltb 0 (n * 2 ^ (64 - d) % x)) (sym (pow-rest d h))
+    ∙ ap (ltb 0) (low-shifted (2 ^ (64 - d)) (2 ^ d) n (pow-pos (64 - d)) (pow-pos d)) ∙ ltb-scaled (n % 2 ^ d) (2 ^ (64 - d)) (pow-pos (64 - d))
+
+pub low-all : (n d : ℕ) → n < 2 ^ 64 → 64 ≤ d → ltb 0 n ≡ ltb 0 (n % 2 ^ d)
+low-all n d N h = sym (ap (ltb 0) (mod-eq-of-lt (lt-of-lt-of-le N (pow-mono h))))
+
+-- of a pair: in its lower half, or in both
+pub low-in-one : (h l d : ℕ) → d < 64 → ltb 0 (l % 2 ^ d) ≡ ltb 0 ((h * 2 ^ 64 + l) % 2 ^ d)
+low-in-one h l d H =
+    sym (ap (λ (x : ℕ). ltb 0 ((h * x + l) % 2 ^ d)) (sym (pow-rest d H) ∙ mul-comm (2 ^ d) (2 ^ (64 - d)))
+    ∙ ap (λ (x : ℕ). ltb 0 ((x + l) % 2 ^ d)) (sym (mul-assoc h (2 ^ (64 - d)) (2 ^ d)))
+    ∙ ap (ltb 0) (mul-add-mod-self-right (h * 2 ^ (64 - d)) (2 ^ d) l))
+
+low-halves : (h l d : ℕ) → l < 2 ^ 64 → 64 ≤ d → (h * 2 ^ 64 + l) % 2 ^ d ≡ h % 2 ^ (d - 64) * 2 ^ 64 + l
+low-halves h l d L H =
+    ap (λ (x : ℕ). (h * 2 ^ 64 + l) % 2 ^ x) (over d H) ∙ mod-pow-add (h * 2 ^ 64 + l) (d - 64) 64
+    ∙ ap (λ (x : ℕ). x % 2 ^ (d - 64) * 2 ^ 64 + (h * 2 ^ 64 + l) % 2 ^ 64) (Pow.high h 64 L)
+    ∙ ap (λ (x : ℕ). h % 2 ^ (d - 64) * 2 ^ 64 + x) (Pow.low h 64 L)
+  where
+    over : (d : ℕ) → 64 ≤ d → d ≡ d - 64 + 64
+    over d h = omega arith
+
+pub low-in-upper : (h l d : ℕ) → l < 2 ^ 64 → 64 ≤ d → l ≡ 0 → ltb 0 (h % 2 ^ (d - 64)) ≡ ltb 0 ((h * 2 ^ 64 + l) % 2 ^ d)
+low-in-upper h l d L H z =
+    let q = h % 2 ^ (d - 64) in
+    sym (ap (ltb 0) (low-halves h l d L H ∙ ap (λ (x : ℕ). q * 2 ^ 64 + x) z ∙ add-zero (q * 2 ^ 64)) ∙ ltb-scaled q (2 ^ 64) (pow-pos 64))
+
+pub low-in-lower : (h l d : ℕ) → l < 2 ^ 64 → 64 ≤ d → (l ≡ 0 → ⊥) → true ≡ ltb 0 ((h * 2 ^ 64 + l) % 2 ^ d)
+low-in-lower h l d L H n = sym (ap (ltb 0) (low-halves h l d L H) ∙ lt-ltb 0 (h % 2 ^ (d - 64) * 2 ^ 64 + l) (omega arith))
 
 -- ---- the last bits jammed: q is what is left of n after d + 1 bits
 pub twice-le : (n d : ℕ) → n / 2 ^ (d + 1) * 2 ≤ n
@@ -295,12 +339,12 @@ twice-le n d =
 pub jam-room : (h l q : ℕ) → h * 18446744073709551616 + l ≡ q * 2 → l < 18446744073709551616 → l + 1 < 18446744073709551616
 jam-room h l q e b = omega arith
 
-pub jam-some : (n d h l : ℕ) → h * 18446744073709551616 + l ≡ n / 2 ^ (d + 1) * 2 → n / 2 ^ (d + 1) * 2 ^ (d + 1) < n
+pub jam-some : (n d h l : ℕ) → h * 18446744073709551616 + l ≡ n / 2 ^ (d + 1) * 2 → 0 < n % 2 ^ (d + 1)
     → h * 18446744073709551616 + (l + 1) ≡ jammed n d
-jam-some n d h l e g = let m = div-add-mod' n (2 ^ (d + 1)) in omega arith
+jam-some n d h l e g = omega arith
 
-pub jam-none : (n d v : ℕ) → v ≡ n / 2 ^ (d + 1) * 2 → n ≤ n / 2 ^ (d + 1) * 2 ^ (d + 1) → v ≡ jammed n d
-jam-none n d v e g = let m = div-add-mod' n (2 ^ (d + 1)) in omega arith
+pub jam-none : (n d v : ℕ) → v ≡ n / 2 ^ (d + 1) * 2 → n % 2 ^ (d + 1) ≤ 0 → v ≡ jammed n d
+jam-none n d v e g = omega arith
 
 -- ---- how many digits, by the zeros that lead
 pub digits-low : (h l : ℕ) → h ≡ 0 → l < 2 ^ 64 → 64 - leadingZeros 64 l ≡ size (h * 2 ^ 64 + l)

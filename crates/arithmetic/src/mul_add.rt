@@ -95,7 +95,7 @@ fn align(p: Pair, ep: i16, m: u64, em: i16) -> Terms
     let b = Pair { hi: 0, lo: m };
     if ep <= em {
         let d = exponent::distance(em, ep);
-        if d <= WORD {
+        if d < WORD {
             Terms {
                 a: p,
                 b: pair::up(b, d),
@@ -158,8 +158,8 @@ fn to_guarded_above(v: Pair, e: i16, at: i16) -> Guarded
         let m = pair::jam(v, exponent::distance(sticky, e));
         Guarded { m: m.lo, k: at }
     } else {
-        let m = pair::up(v, exponent::distance(e, sticky));
-        Guarded { m: m.lo, k: at }
+        let m = v.lo << exponent::distance(e, sticky);
+        Guarded { m, k: at }
     }
 }
 

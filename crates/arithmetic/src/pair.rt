@@ -1,7 +1,7 @@
 // Whole numbers of 128 bits in two halves of 64: sums and differences wrap on each half, and the
 // carry and the borrow are found by comparison.
 ghost use mathlib.Core.Path.{_≡_};
-ghost use Prim.Native.Nat.{_+_, _-_, _*_, _/_, _^_, _≤_, _<_};
+ghost use Prim.Native.Nat.{_+_, _-_, _*_, _/_, _%_, _^_, _≤_, _<_};
 ghost use lib.Dec.{ltb};
 ghost use lib.Ieee as Ieee;
 ghost use lib.IntN.{pos};
@@ -130,15 +130,29 @@ pub(crate) fn down(a: Pair, d: u64) -> Pair
     }
 }
 
-// a with its last d bits cleared.
-pub(crate) fn cleared(a: Pair, d: u64) -> Pair
-    ensures { λ r. ⌜ val r ≡ val a / 2 ^ d * 2 ^ d ⌝ }
+// Whether one of the last d bits of n is set.
+fn has_low_bits(n: u64, d: u64) -> bool
+    ensures { λ r. ⌜ r ≡ ltb 0 (n % 2 ^ d) ⌝ }
 {
-    let q = down(a, d);
-    if d < BOTH_WORDS {
-        up(q, d)
+    if d == 0 {
+        false
+    } else if d < WORD {
+        0 < (n << (WORD - d))
     } else {
-        Pair { hi: 0, lo: 0 }
+        0 < n
+    }
+}
+
+// Whether one of the last d bits of a is set.
+fn has_low(a: Pair, d: u64) -> bool
+    ensures { λ r. ⌜ r ≡ ltb 0 (val a % 2 ^ d) ⌝ }
+{
+    if d < WORD {
+        has_low_bits(a.lo, d)
+    } else if a.lo == 0 {
+        has_low_bits(a.hi, d - WORD)
+    } else {
+        true
     }
 }
 
@@ -148,7 +162,7 @@ pub(crate) fn jam(a: Pair, d: u64) -> Pair
     ensures { λ r. ⌜ val r ≡ jammed (val a) d ⌝ }
 {
     let r = up(down(a, d + 1), 1);
-    if less(cleared(a, d + 1), a) {
+    if has_low(a, d + 1) {
         Pair {
             hi: r.hi,
             lo: r.lo + 1,

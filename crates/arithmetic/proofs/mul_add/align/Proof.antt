@@ -109,5 +109,5 @@ returns-4 c =
 pub align-spec : {M : Type 1} → statement M
 align-spec =
     tie.close
-    (tie.spec distance-requires up-requires (λ c. search needs) jam-requires lowered-requires distance-requires-2 up-requires-2 up-requires-3
+    (tie.spec distance-requires up-requires jam-requires lowered-requires distance-requires-2 up-requires-2 up-requires-3
     (λ c. search needs) jam-requires-2 lowered-requires-2 returns returns-2 returns-3 returns-4)

@@ -1,5 +1,5 @@
 -- `mul_add::to_guarded_above` meets its contract, by the laws of `MulAddGuarded`. Assumes nothing.
-use mathlib.Core.Path.{_≡_}
+use mathlib.Core.Path.{_≡_, refl}
 use Prim.Native.Nat.{_+_, _≤_}
 use lib.Dec.{lit≤}
 use lib.Ieee.{size}
@@ -8,7 +8,7 @@ use Rattle.arithmetic.specs.Internal.Exponent.{above}
 use Rattle.arithmetic.proofs.Pairs.{val-size}
 use Rattle.arithmetic.proofs.Exponents.{held-is, lowered-asks}
 use Rattle.arithmetic.proofs.MulAddGuarded.{sticky-in-range, jam-order, jam-asks, jam-gives, up-order, up-asks, up-gives}
-use Rattle.arithmetic.proofs.MulAddGuarded.{guarded-jam, up-by, up-fits, guarded-up}
+use Rattle.arithmetic.proofs.MulAddGuarded.{guarded-jam, up-by, guarded-up}
 use borrow.Author.Needs.{needs}
 use Rattle.arithmetic.proofs.mul_add.to_guarded_above.Statement.{statement}
 use Rattle.arithmetic.proofs.mul_add.to_guarded_above.Tie as tie
@@ -49,10 +49,11 @@ appended c =
 jam-requires : tie.Need-jam-requires
 jam-requires c κs = c .distance .ensures .1
 
-up-requires : tie.Need-up-requires
-up-requires c κs =
-    let s = c .before .before .before in
-    (up-by _ (few s) _ _ (s .pre) _ (appended c), up-fits _ (few s) _ _ (s .pre) _ (appended c))
+shl-m : tie.Need-shl-m
+shl-m c =
+    let at-distance = c .before in
+    let s = at-distance .before .before .before in
+    up-by _ (few s) _ _ (s .pre) _ (appended at-distance)
 
 returns : tie.Need-returns
 returns c =
@@ -65,9 +66,9 @@ returns-2 : tie.Need-returns-2
 returns-2 c =
     let at-distance = c .before in
     let s = at-distance .before .before .before in
-    let r = c .up .result in
-    rw (held-is (s .args .at) (s .pre .kept .in-range)) (guarded-up _ (few s) _ _ (s .pre) _ (appended at-distance) (r .hi) (r .lo) (c .up .ensures))
+    let v = s .args .v in
+    rw (held-is (s .args .at) (s .pre .kept .in-range)) (guarded-up _ (few s) _ _ (s .pre) _ (appended at-distance) (v .hi) (v .lo) refl)
 
 pub to-guarded-above-spec : {M : Type 1} → statement M
 to-guarded-above-spec =
-    tie.close (tie.spec lowered-requires distance-requires jam-requires distance-requires-2 up-requires returns returns-2)
+    tie.close (tie.spec lowered-requires distance-requires jam-requires distance-requires-2 shl-m returns returns-2)

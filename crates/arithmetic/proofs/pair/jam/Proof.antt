@@ -24,8 +24,8 @@ next-fits c = go (c .args .d) (whole-most (c .args .d) (c .pre))
 add-down : tie.Need-add-down
 add-down c = record { fits = next-fits c }
 
-add-cleared : tie.Need-add-cleared
-add-cleared c = record { fits = next-fits (c .before .before) }
+add-has-low : tie.Need-add-has-low
+add-has-low c = record { fits = next-fits (c .before .before) }
 
 up-requires : tie.Need-up-requires
 up-requires c κs =
@@ -42,34 +42,28 @@ low c = search needs
 
 add-t8 : tie.Need-add-t8
 add-t8 c =
-    let at-less = c .before .before in
-    let at-up = at-less .before .before in
+    let at-low = c .before .before in
+    let at-up = at-low .before in
     let a = at-up .before .before .args in
     record { fits = jam-room (at-up .up .result .hi) (at-up .up .result .lo) (val (a .a) / 2 ^ (a .d + 1)) (twice at-up) (low at-up) }
 
 returns : tie.Need-returns
 returns c =
     let at-test = c .before in
-    let at-less = at-test .before in
-    let at-cleared = at-less .before in
-    let at-up = at-cleared .before in
+    let at-low = at-test .before in
+    let at-up = at-low .before in
     let a = at-up .before .before .args in
-    let cut = ltb-true _ _ (sym (at-less .less .ensures) ∙ at-test .if1 .taken) in
     jam-some (val (a .a)) (a .d) (at-up .up .result .hi) (at-up .up .result .lo) (twice at-up)
-    (subst (λ (x : ℕ). x < val (a .a)) (at-cleared .cleared .ensures) cut)
+    (ltb-true 0 _ (sym (at-low .has-low .ensures) ∙ at-test .if1 .taken))
 
 returns-2 : tie.Need-returns-2
 returns-2 c =
-    let at-less = c .before in
-    let at-cleared = at-less .before in
-    let at-up = at-cleared .before in
+    let at-low = c .before in
+    let at-up = at-low .before in
     let a = at-up .before .before .args in
-    let nothing-cut = ltb-false _ _ (sym (at-less .less .ensures) ∙ c .if1 .left) in
-    jam-none (val (a .a)) (a .d) (val (at-up .up .result)) (twice at-up)
-    (subst (λ (x : ℕ). val (a .a) ≤ x) (at-cleared .cleared .ensures) nothing-cut)
+    jam-none (val (a .a)) (a .d) (val (at-up .up .result)) (twice at-up) (ltb-false 0 _ (sym (at-low .has-low .ensures) ∙ c .if1 .left))
 
 pub jam-spec : {M : Type 1} → statement M
 jam-spec =
     tie.close
-    (tie.spec add-down (λ c κs. search needs) up-requires add-cleared (λ c κs. search needs)
-    (λ c κs. search needs) add-t8 returns returns-2)
+    (tie.spec add-down (λ c κs. search needs) up-requires add-has-low (λ c κs. search needs) add-t8 returns returns-2)

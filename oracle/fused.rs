@@ -10,23 +10,7 @@ const SIGN: u64 = 1 << 63;
 const FRACTION: u64 = (1 << 52) - 1;
 const SHOWN: u64 = 5;
 
-#[cfg(target_arch = "x86_64")]
-fn has_fused() -> bool {
-    is_x86_feature_detected!("fma")
-}
-
-#[cfg(target_arch = "x86_64")]
 #[target_feature(enable = "fma")]
-fn fused(x: f64, a: f64, b: f64) -> f64 {
-    x.mul_add(a, b)
-}
-
-#[cfg(target_arch = "aarch64")]
-fn has_fused() -> bool {
-    true
-}
-
-#[cfg(target_arch = "aarch64")]
 fn fused(x: f64, a: f64, b: f64) -> f64 {
     x.mul_add(a, b)
 }
@@ -60,7 +44,7 @@ impl Tally {
     }
 }
 
-/// xorshift64*.
+/// xorshift64 by 13, 7 and 17, times an odd number.
 struct Rng(u64);
 
 impl Rng {
@@ -90,7 +74,7 @@ fn patterns(fields: &[u64], fractions: &[u64]) -> Vec<u64> {
     signed.flat_map(|bits| [bits, bits | SIGN]).collect()
 }
 
-/// Zeros, the smallest and the largest values, those beside 1, infinities and a NaN.
+/// Zeros, the smallest and the largest values, those beside 1, infinities and NaNs.
 fn few_edges() -> Vec<u64> {
     patterns(&[0, 1, 2, 1022, 1023, 1024, 2045, 2046, 2047], &[0, 1, 1 << 51, FRACTION])
 }
@@ -119,25 +103,35 @@ fn drawn(rng: &mut Rng, tally: &mut Tally) {
         tally.case(x, a, (product ^ SIGN).wrapping_add(step));
     }
     tally.case(x, a, product);
-    // The result is subnormal, or next to that.
+    tally.case(rng.bits(), rng.bits(), rng.bits());
+}
+
+/// Results among the subnormals or next to them, next to overflow, and next to a tie.
+fn drawn_at_borders(rng: &mut Rng, tally: &mut Tally) {
+    let i = rng.below(1094) as i64;
     let j = 1023 - i + rng.below(140) as i64 - 70;
-    let (a, b) = (rng.with_field(j), rng.bits() & (SIGN | FRACTION >> rng.below(52)));
-    tally.case(x, a, b);
-    let k = rng.below(60) as i64;
-    let b = rng.with_field(k);
-    tally.case(x, a, b);
-    // It is next to overflow.
+    let (x, a) = (rng.with_field(i), rng.with_field(j));
+    tally.case(x, a, rng.bits() & (SIGN | FRACTION >> rng.below(52)));
+    let i = 1023 + rng.below(1024) as i64;
     let j = 3068 - i + rng.below(6) as i64 - 3;
     let k = 2046 - rng.below(60) as i64;
-    let (a, b) = (rng.with_field(j), rng.with_field(k));
+    let (x, a, b) = (rng.with_field(i), rng.with_field(j), rng.with_field(k));
     tally.case(x, a, b);
-    tally.case(rng.bits(), rng.bits(), rng.bits());
+    // A product of about half a unit of the addend's last place: 1 or next to it, times a power of two; or so much below the largest value.
+    let ends = [0, 1, 2, FRACTION - 1, FRACTION];
+    let k = if rng.below(4) == 0 { 2046 } else { 60 + rng.below(1986) as i64 };
+    let i = (k - 53) / 2 + 512 + rng.below(3) as i64 - 1;
+    let j = k - 53 + 1023 - i + rng.below(3) as i64 - 1;
+    let end = |rng: &mut Rng, field: i64| (rng.bits() & SIGN) | (field.clamp(0, 2046) as u64) << 52 | ends[rng.below(5) as usize];
+    let (x, a) = (end(rng, i), end(rng, j));
+    let b = if rng.below(2) == 0 { end(rng, k) } else { rng.with_field(k) };
+    tally.case(x, a, b);
 }
 
 fn main() {
     let words: Vec<u64> = std::env::args().skip(1).map(|word| word.parse().expect("a number")).collect();
     let (cases, seed) = (words[0] * 1_000_000, words[1]);
-    if !has_fused() {
+    if !is_x86_feature_detected!("fma") {
         eprintln!("oracle/fused: the processor has no fused multiply-add");
         exit(4);
     }
@@ -160,6 +154,7 @@ fn main() {
     tally.told("and every pair of many");
     while tally.run < cases {
         drawn(&mut rng, &mut tally);
+        drawn_at_borders(&mut rng, &mut tally);
     }
     tally.told("and drawn cases");
     exit((tally.differ != 0) as i32);

@@ -50,7 +50,7 @@ pub exponent-range : InRange (negsuc 3999) × InRange (pos 4000) × (InRange (ne
 exponent-range =
     (record { least = leZ-yes tt; most = leZ-yes tt }, record { least = leZ-yes tt; most = leZ-yes tt }, (λ h. h .least .le), (λ h. h .most .le))
 
--- those of the least value, of 1, whose last digit is at 2 ^ -52, and of the largest, counted from the first on; those of the least product, of the
+-- the exponents of the least value, of 1, whose last digit is at 2 ^ -52, and of the largest, counted from the first on; those of the least product, of the
 -- least value and of the largest product likewise
 pub exponent-counts : (above 1074 (negsuc 1073) ≡ 0) × (above 1074 (negsuc 51) ≡ 1022) × (above 1074 (pos 971) ≡ 2045)
     × (above 2148 (negsuc 2147) ≡ 0) × (above 2148 (negsuc 1073) ≡ 1074) × (above 2148 (pos 1942) ≡ 4090)

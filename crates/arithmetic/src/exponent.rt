@@ -33,7 +33,7 @@ pub(crate) fn lowered(a: i16, n: u64) -> i16
     a - (n as i16)
 }
 
-// How many digits a lies above b, to shift by. The difference is taken in 16 bits.
+// How many digits a lies above b: the difference, taken in 16 bits and then widened.
 pub(crate) fn distance(a: i16, b: i16) -> u64
     requires { ⌜ InRange a ⌝ ∗ ⌜ InRange b ⌝ ∗ ⌜ InRange (a -ℤ b) ⌝ ∗ ⌜ b ≤ℤ a ⌝ }
     ensures { λ r. ⌜ (pos r ≡ a -ℤ b) × InRange (pos r) ⌝ }

@@ -12,7 +12,7 @@ pub(crate) const LEAST_EXPONENT: i16 = -1074;
 // LEAST_EXPONENT + PRECISION.
 pub(crate) const MIN_EXP: i16 = -1021;
 
-// The last digit of a normal value with this field of the exponent is at 2^(field + FIELD_OFFSET): LEAST_EXPONENT - 1.
+// A normal value whose exponent's field is f has its last digit at 2^(f + FIELD_OFFSET). It is LEAST_EXPONENT - 1.
 pub(crate) const FIELD_OFFSET: i16 = -1075;
 
 // The exponent's field of 1.

@@ -191,8 +191,8 @@ fn with_sign(negative: bool, magnitude: u64) -> f64
     }
 }
 
-// m / 4 * 2^k, rounded to a whole number times 2^k, or to an infinity. The digits from LEAST_EXPONENT to k are the
-// exponent's field, less 1 for the leading digit of a normal value; a carry out of the significand goes there too.
+// m / 4 * 2^k, rounded to a whole number times 2^k, or to an infinity. How far k lies above LEAST_EXPONENT is the
+// exponent's field less 1, which the leading digit of a normal value adds; a carry out of the significand goes there too.
 fn pack(negative: bool, m: u64, k: i16) -> f64
     requires { ⌜ m < 2 ^ 55 ⌝ ∗ ⌜ KeptExponent k ⌝ ∗ ⌜ (0 < above 1074 k → 2 ^ 54 ≤ m) ⌝ }
     ensures { λ r. ⌜ r ≡ Ieee.units binary64 negative (closest m 4) (above 1074 k) ⌝ }

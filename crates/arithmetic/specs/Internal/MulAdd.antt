@@ -1,5 +1,5 @@
 -- What the steps of `mul_add` promise of their results. Magnitudes are whole numbers of units: of 2 ^ -1074 for an operand, and of
--- 2 ^ -2148 for the product and the sum. So 2 ^ e is 2 ^ above 1074 e of the ones, and 2 ^ above 2148 e of the others.
+-- 2 ^ -2148 for the product and the sum. So 2 ^ e is 2 ^ above 1074 e of the first, and 2 ^ above 2148 e of the second.
 use mathlib.Core.Path.{_≡_}
 use Prim.Native.Nat.{ℕ, _+_, _-_, _*_, _/_, _^_, _≤_, _<_}
 use mathlib.Core.Bool.{Bool}

@@ -1,4 +1,4 @@
--- `exponent::lowered` meets its contract: what is read back of both is they, and their difference is in range. Assumes nothing.
+-- `exponent::lowered` meets its contract: both are read back as they are, and their difference is in range. Assumes nothing.
 use mathlib.Core.Path.{_≡_, ap, _∙_}
 use lib.IntN.{ℤ, pos, _-ℤ_}
 use mir.Syntax.{w16}

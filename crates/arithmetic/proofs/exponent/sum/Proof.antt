@@ -1,4 +1,4 @@
--- `exponent::sum` meets its contract: what is read back of both exponents is they, and their sum is in range. Assumes nothing.
+-- `exponent::sum` meets its contract: both are read back as they are, and their sum is in range. Assumes nothing.
 use mathlib.Core.Path.{_≡_, ap, _∙_}
 use lib.IntN.{ℤ, _+ℤ_}
 use Rattle.arithmetic.proofs.Exponents.{held, held-is, made-fits, made-is}

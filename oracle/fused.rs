@@ -117,7 +117,8 @@ fn drawn_at_borders(rng: &mut Rng, tally: &mut Tally) {
     let k = 2046 - rng.below(60) as i64;
     let (x, a, b) = (rng.with_field(i), rng.with_field(j), rng.with_field(k));
     tally.case(x, a, b);
-    // A product of about half a unit of the addend's last place: 1 or next to it, times a power of two; or so much below the largest value.
+    // A product of about half a unit of the addend's last place, its factors next to powers of two; in a quarter of the cases the addend
+    // is among the largest values.
     let ends = [0, 1, 2, FRACTION - 1, FRACTION];
     let k = if rng.below(4) == 0 { 2046 } else { 60 + rng.below(1986) as i64 };
     let i = (k - 53) / 2 + 512 + rng.below(3) as i64 - 1;

@@ -20,7 +20,7 @@ Counted l (pos n) k = n + l ≡ k
 Counted l (negsuc n) k = k + suc n ≡ l
 
 -- ---- sums and differences
--- a - b of whole numbers is either
+-- a - b of whole numbers is one of these
 sub-cases : (P : ℤ → Type 0) (a b : ℕ)
     → ((n : ℕ) → n + b ≡ a → P (pos n)) → ((n : ℕ) → a + suc n ≡ b → P (negsuc n)) → P (subℕ a b)
 sub-cases P a b f g =
@@ -53,20 +53,20 @@ counted-from l k m j (negsuc n) h E = omega arith
 pub counted-raised : (l k d : ℕ) (a : ℤ) → Counted l a k → Counted l (a +ℤ pos d) (k + d)
 counted-raised l k d a A = counted-from (l + 0) (k + d) l (k + d) (a +ℤ pos d) (omega arith) (counted-sum l 0 k d a (pos d) A (omega arith))
 
-pub counted-lowered : (l k d : ℕ) (a : ℤ) → Counted l a (k + d) → Counted l (a -ℤ pos d) k
-counted-lowered l k d a A =
+pub counted-lowered : (l k d : ℕ) (a : ℤ) → d ≤ k → Counted l a k → Counted l (a -ℤ pos d) (k - d)
+counted-lowered l k d a h A =
     let negated = counted-negated 0 d (pos d) (omega arith) in
-    counted-from (l + d) (k + d + 0) l k (a -ℤ pos d) (omega arith) (counted-sum l d (k + d) 0 a (negℤ (pos d)) A negated)
+    counted-from (l + d) (k + 0) l (k - d) (a -ℤ pos d) (omega arith) (counted-sum l d k 0 a (negℤ (pos d)) A negated)
 
 -- from 0 on an exponent is a whole number
 counted-whole : (e : ℤ) (k : ℕ) → Counted 0 e k → e ≡ pos k
 counted-whole (pos n) k E = ap pos (omega arith)
 counted-whole (negsuc n) k E = absurd (omega arith)
 
-pub counted-distance : (l j d : ℕ) (a b : ℤ) → Counted l a (d + j) → Counted l b j → a -ℤ b ≡ pos d
-counted-distance l j d a b A B =
-    counted-whole (a -ℤ b) d
-    (counted-from (l + j) (d + j + l) 0 d (a -ℤ b) (omega arith) (counted-sum l j (d + j) l a (negℤ b) A (counted-negated l j b B)))
+counted-distance : (l j k : ℕ) (a b : ℤ) → k ≤ j → Counted l a j → Counted l b k → a -ℤ b ≡ pos (j - k)
+counted-distance l j k a b h A B =
+    counted-whole (a -ℤ b) (j - k)
+    (counted-from (l + k) (j + l) 0 (j - k) (a -ℤ b) (omega arith) (counted-sum l k j l a (negℤ b) A (counted-negated l k b B)))
 
 -- ---- order
 pub counted-order : (l j k : ℕ) (a b : ℤ) → Counted l a j → Counted l b k → leZ a b ≡ true → j ≤ k
@@ -152,7 +152,10 @@ held e = toZ w16 (ofZ w16 e)
 pub held-is : (e : ℤ) → InRange e → held e ≡ e
 held-is e R = toZ-ofZ w16 e (range-fits e R)
 
--- what holds of two that are read back
+-- what is made of two that are read back, and what holds of them
+pub held-both : {X : Type 0} (f : ℤ → ℤ → X) (a b : ℤ) → InRange a → InRange b → f (held a) (held b) ≡ f a b
+held-both f a b R S = ap (λ (z : ℤ). f z (held b)) (held-is a R) ∙ ap (f a) (held-is b S)
+
 pub of-held : (P : ℤ → ℤ → Type 0) (a b : ℤ) → InRange a → InRange b → P (held a) (held b) → P a b
 of-held P a b R S h = subst (P a) (held-is b S) (subst (λ (z : ℤ). P z (held b)) (held-is a R) h)
 
@@ -168,16 +171,15 @@ made-is {e} {s} S R =
 pub whole-read : (n : ℕ) → InRange (pos n) → toZ w16 n ≡ pos n
 whole-read n R = toZ-pos w16 n (range-fits (pos n) R .sfits)
 
+pub held-whole : (f : ℤ → ℤ → ℤ) (a : ℤ) (n : ℕ) → InRange a → InRange (pos n) → f (held a) (toZ w16 n) ≡ f a (pos n)
+held-whole f a n R S = ap (λ (z : ℤ). f z (toZ w16 n)) (held-is a R) ∙ ap (f a) (whole-read n S)
+
 -- a difference that is not negative, as a whole number
 pub distance-is : (a b : ℤ) → InRange a → InRange b → b ≤ℤ a → a -ℤ b ≡ pos (above limit a - above limit b)
 distance-is a b A B h =
     let x = counted-least limit a (A .least) in
     let y = counted-least limit b (B .least) in
-    let i = counted-order limit _ _ b a y x (is-true _ (h .le)) in
-    counted-distance limit (above limit b) (above limit a - above limit b) a b (subst (Counted limit a) (back (above limit a) (above limit b) i) x) y
-  where
-    back : (j k : ℕ) → k ≤ j → j ≡ j - k + k
-    back j k i = omega arith
+    counted-distance limit (above limit a) (above limit b) a b (counted-order limit _ _ b a y x (is-true _ (h .le))) x y
 
 -- as the machine casts it
 pub whole-cast : {s : ℤ} (n : ℕ) → s ≡ pos n → InRange (pos n) → T (nonNeg (held s)) × Fits w64 (natAbs (held s))
@@ -194,21 +196,15 @@ abbrev pub Asked : ℤ → ℤ → Type 0
 Asked a b = InRange (held a) × (InRange (held b) × (InRange (held a -ℤ held b) × (held b ≤ℤ held a)))
 
 module _ (l j k : ℕ) (a b : ℤ) (R : InRange a) (S : InRange b) (A : Counted l a j) (B : Counted l b k) where
-  tested : leZ (held a) (held b) ≡ leZ a b
-  tested = ap (λ (z : ℤ). leZ z (held b)) (held-is a R) ∙ ap (leZ a) (held-is b S)
-
   pub test-passed : leZ (held a) (held b) ≡ true → j ≤ k
-  test-passed h = counted-order l j k a b A B (sym tested ∙ h)
+  test-passed h = counted-order l j k a b A B (sym (held-both leZ a b R S) ∙ h)
 
   pub test-failed : leZ (held a) (held b) ≡ false → k < j
-  test-failed h = counted-order-not l j k a b A B (sym tested ∙ h)
+  test-failed h = counted-order-not l j k a b A B (sym (held-both leZ a b R S) ∙ h)
 
   module _ (h : k ≤ j) where
     apart : a -ℤ b ≡ pos (j - k)
-    apart = counted-distance l k (j - k) a b (subst (Counted l a) (back j k h) A) B
-      where
-        back : (j k : ℕ) → k ≤ j → j ≡ j - k + k
-        back j k h = omega arith
+    apart = counted-distance l j k a b h A B
 
     pub distance-asks : j ≤ k + limit → Asked a b
     distance-asks i =
@@ -216,24 +212,15 @@ module _ (l j k : ℕ) (a b : ℤ) (R : InRange a) (S : InRange b) (A : Counted 
         rw (held-is a R, held-is b S) (R, (S, (d, order-is l k j b a B A h)))
 
     pub distance-gives : (d : ℕ) → pos d ≡ held a -ℤ held b → d + k ≡ j
-    distance-gives d e =
-        let i : d ≡ j - k =
-        ap natAbs (e ∙ ap (λ (z : ℤ). z -ℤ held b) (held-is a R) ∙ ap (λ (z : ℤ). a -ℤ z) (held-is b S) ∙ apart) in
-        omega arith
+    distance-gives d e = let i : d ≡ j - k = ap natAbs (e ∙ held-both _-ℤ_ a b R S ∙ apart) in omega arith
 
--- ---- what `raised` and `lowered` ask and give
-module _ (a : ℤ) (R : InRange a) (n : ℕ) where
-  pub raised-asks : n ≤ limit → InRange (a +ℤ pos n) → InRange (held a) × (InRange (pos n) × InRange (held a +ℤ pos n))
-  raised-asks h S = rw (held-is a R) (R, (whole-in-range n h, S))
+-- ---- what `raised` and `lowered` ask and give: f is the sum of the one, and the difference of the other
+module _ (f : ℤ → ℤ → ℤ) (a : ℤ) (R : InRange a) (n : ℕ) where
+  pub moved-asks : n ≤ limit → InRange (f a (pos n)) → InRange (held a) × (InRange (pos n) × InRange (f (held a) (pos n)))
+  moved-asks h S = rw (held-is a R) (R, (whole-in-range n h, S))
 
-  pub raised-gives : (r : ℤ) → (r ≡ held a +ℤ pos n) × InRange r → held r ≡ a +ℤ pos n
-  raised-gives r E = held-is r (E .1) ∙ E .0 ∙ ap (λ (z : ℤ). z +ℤ pos n) (held-is a R)
-
-  pub lowered-asks : n ≤ limit → InRange (a -ℤ pos n) → InRange (held a) × (InRange (pos n) × InRange (held a -ℤ pos n))
-  lowered-asks h S = rw (held-is a R) (R, (whole-in-range n h, S))
-
-  pub lowered-gives : (r : ℤ) → (r ≡ held a -ℤ pos n) × InRange r → held r ≡ a -ℤ pos n
-  lowered-gives r E = held-is r (E .1) ∙ E .0 ∙ ap (λ (z : ℤ). z -ℤ pos n) (held-is a R)
+  pub moved-gives : (r : ℤ) → (r ≡ f (held a) (pos n)) × InRange r → held r ≡ f a (pos n)
+  moved-gives r E = held-is r (E .1) ∙ E .0 ∙ ap (λ (z : ℤ). f z (pos n)) (held-is a R)
 
 -- ---- and `sum`
 module _ (a b : ℤ) (R : InRange a) (S : InRange b) where
@@ -241,4 +228,4 @@ module _ (a b : ℤ) (R : InRange a) (S : InRange b) where
   sum-asks h = rw (held-is a R, held-is b S) (R, (S, h))
 
   pub sum-gives : (r : ℤ) → (r ≡ held a +ℤ held b) × InRange r → held r ≡ a +ℤ b
-  sum-gives r E = held-is r (E .1) ∙ E .0 ∙ ap (λ (z : ℤ). z +ℤ held b) (held-is a R) ∙ ap (λ (z : ℤ). a +ℤ z) (held-is b S)
+  sum-gives r E = held-is r (E .1) ∙ E .0 ∙ held-both _+ℤ_ a b R S

@@ -235,10 +235,7 @@ module _ (p : Pair) {ep : ℤ} {m : ℕ} {em : ℤ} (o : Operands (val p) ep m e
 
   -- it lies far above, and the product is jammed
   counted-y : Counted 2148 (em -ℤ pos 64) (y - 64)
-  counted-y = counted-lowered 2148 (y - 64) 64 em (subst (Counted 2148 em) (back y y-least) at-y)
-    where
-      back : (n : ℕ) → 1074 ≤ n → n ≡ n - 64 + 64
-      back n h = omega arith
+  counted-y = let l = y-least in counted-lowered 2148 y 64 em (omega arith) at-y
 
   pub addend-lowered : TermExponent (em -ℤ pos 64)
   addend-lowered =
@@ -293,10 +290,7 @@ module _ (p : Pair) {ep : ℤ} {m : ℕ} {em : ℤ} (o : Operands (val p) ep m e
   -- it lies far below, and is jammed
   module _ (d : ℕ) (E : d + y ≡ x) (h : 20 < d) where
     counted-x : Counted 2148 (ep -ℤ pos 20) (x - 20)
-    counted-x = counted-lowered 2148 (x - 20) 20 ep (subst (Counted 2148 ep) (back x (omega arith)) at-x)
-      where
-        back : (n : ℕ) → 20 ≤ n → n ≡ n - 20 + 20
-        back n h = omega arith
+    counted-x = counted-lowered 2148 x 20 ep (omega arith) at-x
 
     pub product-lowered : TermExponent (ep -ℤ pos 20)
     product-lowered =

@@ -21,7 +21,7 @@ use Rattle.arithmetic.specs.Internal.MulAdd.{TermExponent, KeptExponent,
 use Rattle.arithmetic.specs.Laws.Numbers.{pow-split, size-mul}
 use Rattle.arithmetic.proofs.Exponents.{Counted, counted-from, counted-raised, counted-lowered, counted-order, counted-order-not}
 use Rattle.arithmetic.proofs.Exponents.{counted, counted-is, counted-most, in-range-is, exponent-is}
-use Rattle.arithmetic.proofs.Exponents.{held, held-is, Asked, test-passed, test-failed, distance-asks, distance-gives, lowered-gives}
+use Rattle.arithmetic.proofs.Exponents.{held, held-is, Asked, test-passed, test-failed, distance-asks, distance-gives, moved-gives}
 use Rattle.arithmetic.proofs.Pairs.{flat}
 use Rattle.arithmetic.proofs.RoundDropped.{closest-jam, size-div, round-at}
 
@@ -78,7 +78,7 @@ module _ (v : ℕ) (e : ℤ) (E : TermExponent e) (n : ℕ) (N : n ≡ size v) (
       counted-last =
           let i = reaches in
           counted-from 2148 (x + n - 53) 1074 (x + n - 1127) (end -ℤ pos 53) (omega arith)
-          (counted-lowered 2148 (x + n - 53) 53 end (subst (Counted 2148 end) (omega arith) counted-end))
+          (counted-lowered 2148 (x + n) 53 end (omega arith) counted-end)
 
       pub last-normal : LastDigit v e (end -ℤ pos 53)
       last-normal =
@@ -180,15 +180,15 @@ module _ (v : ℕ) (few : size v ≤ 128) (e at : ℤ) (P : LastDigit v e at) wh
 
   counted-sticky : Counted 2148 (at -ℤ pos 2) i
   counted-sticky =
-      counted-from 1076 (above 1074 at) 2148 i (at -ℤ pos 2) (omega arith)
-      (counted-lowered 1076 (above 1074 at) 2 at (counted-from 1074 (above 1074 at) 1076 (above 1074 at + 2) at (omega arith) (counted (P .kept))))
+      let above-it = counted-from 1074 (above 1074 at) 1076 (above 1074 at + 2) at (omega arith) (counted (P .kept)) in
+      counted-from 1076 (above 1074 at + 2 - 2) 2148 i (at -ℤ pos 2) (omega arith) (counted-lowered 1076 (above 1074 at + 2) 2 at (omega arith) above-it)
 
   pub sticky-in-range : InRange (at -ℤ pos 2)
   sticky-in-range = let m = counted-most at (P .kept) in in-range-is 2148 i (at -ℤ pos 2) counted-sticky (omega arith) (omega arith)
 
   module _ (r : ℤ) (R : (r ≡ held at -ℤ pos 2) × InRange r) where
     at-r : Counted 2148 r i
-    at-r = subst (λ (z : ℤ). Counted 2148 z i) (sym (lowered-gives at (P .kept .in-range) 2 r R) ∙ held-is r (R .1)) counted-sticky
+    at-r = subst (λ (z : ℤ). Counted 2148 z i) (sym (moved-gives _-ℤ_ at (P .kept .in-range) 2 r R) ∙ held-is r (R .1)) counted-sticky
 
     at-e : Counted 2148 e j
     at-e = counted (P .term)

@@ -1,9 +1,9 @@
 -- `exponent::distance` meets its contract: the difference is in range, and not negative. Assumes nothing.
 use mathlib.Core.Path.{_≡_, sym, ap, _∙_, subst}
 use Prim.Native.Nat.{ℕ, _-_}
-use lib.IntN.{ℤ, pos, _-ℤ_}
+use lib.IntN.{pos, _-ℤ_}
 use Rattle.arithmetic.specs.Internal.Exponent.{limit, InRange, above}
-use Rattle.arithmetic.proofs.Exponents.{held, held-is, made-fits, distance-is, whole-cast, whole-cast-is}
+use Rattle.arithmetic.proofs.Exponents.{held, held-both, made-fits, distance-is, whole-cast, whole-cast-is}
 use Rattle.arithmetic.proofs.exponent.distance.Statement.{statement}
 use Rattle.arithmetic.proofs.exponent.distance.Tie as tie
 
@@ -18,11 +18,7 @@ in-range : (c : tie.Start) → InRange (pos (whole c))
 in-range c = subst InRange (is-whole c) (c .pre .1 .1 .0)
 
 computed : (c : tie.Start) → let args = c .args in held (args .a) -ℤ held (args .b) ≡ pos (whole c)
-computed c =
-    let args = c .args in
-    ap (λ (z : ℤ). z -ℤ held (args .b)) (held-is (args .a) (c .pre .0))
-    ∙ ap (λ (z : ℤ). args .a -ℤ z) (held-is (args .b) (c .pre .1 .0))
-    ∙ is-whole c
+computed c = held-both _-ℤ_ (c .args .a) (c .args .b) (c .pre .0) (c .pre .1 .0) ∙ is-whole c
 
 sub-result : tie.Need-sub-result
 sub-result c = made-fits (computed c) (in-range c)

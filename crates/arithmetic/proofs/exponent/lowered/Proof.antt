@@ -1,17 +1,14 @@
 -- `exponent::lowered` meets its contract: both are read back as they are, and their difference is in range. Assumes nothing.
-use mathlib.Core.Path.{_≡_, ap, _∙_}
-use lib.IntN.{ℤ, pos, _-ℤ_}
+use mathlib.Core.Path.{_≡_}
+use lib.IntN.{pos, _-ℤ_}
 use mir.Syntax.{w16}
 use mir.Val.{toZ}
-use Rattle.arithmetic.proofs.Exponents.{held, range-fits, held-is, whole-read, made-fits, made-is}
+use Rattle.arithmetic.proofs.Exponents.{held, range-fits, held-whole, made-fits, made-is}
 use Rattle.arithmetic.proofs.exponent.lowered.Statement.{statement}
 use Rattle.arithmetic.proofs.exponent.lowered.Tie as tie
 
 computed : (c : tie.Start) → let args = c .args in held (args .a) -ℤ toZ w16 (args .n) ≡ args .a -ℤ pos (args .n)
-computed c =
-    let args = c .args in
-    ap (λ (z : ℤ). z -ℤ toZ w16 (args .n)) (held-is (args .a) (c .pre .0))
-    ∙ ap (λ (z : ℤ). args .a -ℤ z) (whole-read (args .n) (c .pre .1 .0))
+computed c = held-whole _-ℤ_ (c .args .a) (c .args .n) (c .pre .0) (c .pre .1 .0)
 
 cast-result : tie.Need-cast-result
 cast-result c = range-fits _ (c .pre .1 .0)

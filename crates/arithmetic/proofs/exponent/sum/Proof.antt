@@ -1,15 +1,12 @@
 -- `exponent::sum` meets its contract: both are read back as they are, and their sum is in range. Assumes nothing.
-use mathlib.Core.Path.{_≡_, ap, _∙_}
-use lib.IntN.{ℤ, _+ℤ_}
-use Rattle.arithmetic.proofs.Exponents.{held, held-is, made-fits, made-is}
+use mathlib.Core.Path.{_≡_}
+use lib.IntN.{_+ℤ_}
+use Rattle.arithmetic.proofs.Exponents.{held, held-both, made-fits, made-is}
 use Rattle.arithmetic.proofs.exponent.sum.Statement.{statement}
 use Rattle.arithmetic.proofs.exponent.sum.Tie as tie
 
 computed : (c : tie.Start) → let args = c .args in held (args .a) +ℤ held (args .b) ≡ args .a +ℤ args .b
-computed c =
-    let args = c .args in
-    ap (λ (z : ℤ). z +ℤ held (args .b)) (held-is (args .a) (c .pre .0))
-    ∙ ap (λ (z : ℤ). args .a +ℤ z) (held-is (args .b) (c .pre .1 .0))
+computed c = held-both _+ℤ_ (c .args .a) (c .args .b) (c .pre .0) (c .pre .1 .0)
 
 add-result : tie.Need-add-result
 add-result c = made-fits (computed c) (c .pre .1 .1)

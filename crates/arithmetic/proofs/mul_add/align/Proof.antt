@@ -3,8 +3,9 @@ use mathlib.Core.Path.{_≡_}
 use Prim.Native.Nat.{_+_}
 use native.Mathlib.Nat.{le-refl}
 use lib.Dec.{lit≤}
+use lib.IntN.{_-ℤ_}
 use Rattle.arithmetic.specs.Internal.Exponent.{above}
-use Rattle.arithmetic.proofs.Exponents.{held-is, whole-fewer, lowered-asks, lowered-gives}
+use Rattle.arithmetic.proofs.Exponents.{held-is, whole-fewer, moved-asks, moved-gives}
 use Rattle.arithmetic.proofs.MulAddAlign.{product-in-range, addend-in-range, above-order, above-asks, above-gives}
 use Rattle.arithmetic.proofs.MulAddAlign.{below-order, below-asks, below-gives, addend-lowered, product-lowered}
 use Rattle.arithmetic.proofs.MulAddAlign.{product-fits, addend-fits, near-above, far-above, near-below, far-below}
@@ -60,7 +61,7 @@ lowered-requires : tie.Need-lowered-requires
 lowered-requires c κs =
     let at-far = c .before in
     let s = at-far .before .before .before in
-    lowered-asks (s .args .em) (addend-in-range (s .args .p) (s .pre)) 64 (lit≤ tt) (addend-lowered (s .args .p) (s .pre) .in-range)
+    moved-asks _-ℤ_ (s .args .em) (addend-in-range (s .args .p) (s .pre)) 64 (lit≤ tt) (addend-lowered (s .args .p) (s .pre) .in-range)
 
 lowered-requires-2 : tie.Need-lowered-requires-2
 lowered-requires-2 c κs =
@@ -68,7 +69,7 @@ lowered-requires-2 c κs =
     let at-distance = at-far .before in
     let s = at-distance .before .before in
     let lowered = product-lowered (s .args .p) (s .pre) _ (apart-below at-distance) (at-far .if3 .left) in
-    lowered-asks (s .args .ep) (product-in-range (s .args .p) (s .pre)) 20 (lit≤ tt) (lowered .in-range)
+    moved-asks _-ℤ_ (s .args .ep) (product-in-range (s .args .p) (s .pre)) 20 (lit≤ tt) (lowered .in-range)
 
 returns : tie.Need-returns
 returns c =
@@ -84,7 +85,7 @@ returns-2 c =
     let at-far = at-jam .before in
     let at-distance = at-far .before in
     let s = at-distance .before .before in
-    rw (lowered-gives (s .args .em) (addend-in-range (s .args .p) (s .pre)) 64 _ (c .lowered .ensures))
+    rw (moved-gives _-ℤ_ (s .args .em) (addend-in-range (s .args .p) (s .pre)) 64 _ (c .lowered .ensures))
     (far-above (s .args .p) (s .pre) _ (apart-above at-distance) (at-far .if2 .left) (at-jam .jam .result) (at-jam .jam .ensures))
 
 returns-3 : tie.Need-returns-3
@@ -102,7 +103,7 @@ returns-4 c =
     let at-far = at-up .before in
     let at-distance = at-far .before in
     let s = at-distance .before .before in
-    rw (lowered-gives (s .args .ep) (product-in-range (s .args .p) (s .pre)) 20 _ (c .lowered2 .ensures))
+    rw (moved-gives _-ℤ_ (s .args .ep) (product-in-range (s .args .p) (s .pre)) 20 _ (c .lowered2 .ensures))
     (far-below (s .args .p) (s .pre) _ (apart-below at-distance) (at-far .if3 .left)
     (at-up .up3 .result) (at-jam .jam2 .result) (at-up .up3 .ensures) (at-jam .jam2 .ensures))
 

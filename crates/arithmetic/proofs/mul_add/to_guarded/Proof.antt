@@ -9,7 +9,7 @@ use Rattle.arithmetic.specs.Internal.Pair.{val}
 use Rattle.arithmetic.specs.Internal.Exponent.{InRange, above}
 use Rattle.arithmetic.specs.Internal.MulAdd.{LastDigit, IsGuarded}
 use Rattle.arithmetic.proofs.Pairs.{val-size}
-use Rattle.arithmetic.proofs.Exponents.{written, held, held-is, raised-asks, raised-gives, lowered-asks, lowered-gives}
+use Rattle.arithmetic.proofs.Exponents.{written, held, held-is, moved-asks, moved-gives}
 use Rattle.arithmetic.proofs.MulAddGuarded.{guarded-zero, end-in-range, last-subnormal, last-normal}
 use borrow.Author.Needs.{needs}
 use Rattle.arithmetic.proofs.mul_add.to_guarded.Statement.{statement}
@@ -25,14 +25,14 @@ end c = let at-digits = c .before .before in at-digits .before .args .e +ℤ pos
 end-is : (c : tie.After-raised) → held (c .raised .result) ≡ end c
 end-is c =
     let start = c .before .before .before in
-    raised-gives (start .args .e) (start .pre .in-range) _ _ (c .raised .ensures)
+    moved-gives _+ℤ_ (start .args .e) (start .pre .in-range) _ _ (c .raised .ensures)
 
 raised-requires : tie.Need-raised-requires
 raised-requires c κs =
     let at-digits = c .before in
     let start = at-digits .before in
     let digits = at-digits .digits .ensures in
-    raised-asks (start .args .e) (start .pre .in-range) _ (le-trans (le-of-eq digits) (le-trans (few start) (lit≤ tt)))
+    moved-asks _+ℤ_ (start .args .e) (start .pre .in-range) _ (le-trans (le-of-eq digits) (le-trans (few start) (lit≤ tt)))
     (end-in-range _ (start .args .e) (start .pre) _ digits (few start))
 
 -- the exponent of the last digit that is kept
@@ -50,13 +50,13 @@ lowered-requires : tie.Need-lowered-requires
 lowered-requires c κs =
     let at-raised = c .before in
     let is = sym (end-is at-raised) ∙ held-is _ (at-raised .raised .ensures .1) in
-    lowered-asks _ (at-raised .raised .ensures .1) 53 (lit≤ tt) (subst (λ (z : ℤ). InRange (z -ℤ pos 53)) is (last c .kept .in-range))
+    moved-asks _-ℤ_ _ (at-raised .raised .ensures .1) 53 (lit≤ tt) (subst (λ (z : ℤ). InRange (z -ℤ pos 53)) is (last c .kept .in-range))
 
 last-is : (c : tie.After-lowered) → held (c .lowered .result) ≡ end (c .before .before) -ℤ pos 53
 last-is c =
     let at-raised = c .before .before in
     let r = at-raised .raised .ensures .1 in
-    lowered-gives _ r 53 _ (c .lowered .ensures) ∙ ap (λ (z : ℤ). z -ℤ pos 53) (sym (held-is _ r) ∙ end-is at-raised)
+    moved-gives _-ℤ_ _ r 53 _ (c .lowered .ensures) ∙ ap (λ (z : ℤ). z -ℤ pos 53) (sym (held-is _ r) ∙ end-is at-raised)
 
 to-guarded-above-requires : tie.Need-to-guarded-above-requires
 to-guarded-above-requires c κs =

@@ -2,11 +2,12 @@
 use mathlib.Core.Path.{_≡_, refl}
 use Prim.Native.Nat.{_+_, _≤_}
 use lib.Dec.{lit≤}
+use lib.IntN.{_-ℤ_}
 use lib.Ieee.{size}
 use Rattle.arithmetic.specs.Internal.Pair.{val}
 use Rattle.arithmetic.specs.Internal.Exponent.{above}
 use Rattle.arithmetic.proofs.Pairs.{val-size}
-use Rattle.arithmetic.proofs.Exponents.{held-is, lowered-asks}
+use Rattle.arithmetic.proofs.Exponents.{held-is, moved-asks}
 use Rattle.arithmetic.proofs.MulAddGuarded.{sticky-in-range, jam-order, jam-asks, jam-gives, up-order, up-asks, up-gives}
 use Rattle.arithmetic.proofs.MulAddGuarded.{guarded-jam, up-by, guarded-up}
 use borrow.Author.Needs.{needs}
@@ -17,7 +18,7 @@ few : (c : tie.Start) → size (val (c .args .v)) ≤ 128
 few c = val-size (c .args .v) (search needs) (search needs)
 
 lowered-requires : tie.Need-lowered-requires
-lowered-requires c κs = lowered-asks (c .args .at) (c .pre .kept .in-range) 2 (lit≤ tt) (sticky-in-range _ (few c) _ _ (c .pre))
+lowered-requires c κs = moved-asks _-ℤ_ (c .args .at) (c .pre .kept .in-range) 2 (lit≤ tt) (sticky-in-range _ (few c) _ _ (c .pre))
 
 distance-requires : tie.Need-distance-requires
 distance-requires c κs =

@@ -18,15 +18,16 @@ pub fn text(sheet: &[u8]) -> String {
         return "S 10\n".to_string();
     }
     let mut out = String::new();
-    let (mut answers, mut refusals) = (0, 0);
+    let (mut finite, mut infinite, mut refusals) = (0, 0, 0);
     for (i, q) in sheet[4..].chunks(36).enumerate() {
         let result = quote(word(q, 0), double(q, 4), double(q, 12), double(q, 20), double(q, 28));
         match result {
-            Outcome::Answer { .. } => answers += 1,
+            Outcome::Answer { volatility, .. } if volatility == f64::INFINITY => infinite += 1,
+            Outcome::Answer { .. } => finite += 1,
             Outcome::Refusal { .. } => refusals += 1,
         }
         writeln!(out, "{} {}", i + 1, result.line()).unwrap();
     }
-    writeln!(out, "T {answers} {refusals}").unwrap();
+    writeln!(out, "T {finite} {infinite} {refusals}").unwrap();
     out
 }

@@ -9,7 +9,10 @@ use Rattle.explicit_black.specs.Price.{PriceReply, price, refusal as refusalOfP
 use Rattle.ladder.specs.Ladder.{LadderReply, solved, refused as refusedLadder, Ladder}
 use Rattle.xdr_sheet.specs.Sheet.{Size, quotes, refused, SheetReply, replied, noQuote}
 use Rattle.xdr_sheet.specs.Text.{fitsInto, overlaid}
-use Rattle.xdr_sheet.specs.Printing.{Step}
+use Rattle.xdr_sheet.specs.Printing.{Step, step}
+use Rattle.xdr_sheet.specs.declared.tally.Tally.{Tally}
+use Rattle.xdr_sheet.specs.declared.printing.Progress.{Progress}
+use Rattle.xdr_sheet.specs.declared.printing.Progress.the-variants.{Tallied, Over}
 
 -- ---- a reply: the number, and total volatility, volatility and count at their places
 pub data ReplyToC : Type 0 where
@@ -63,12 +66,21 @@ abbrev pub sizeToC : ℕ → Size → SizeToC
 sizeToC old (quotes n) = handedSize 0 n
 sizeToC old (refused number count) = handedSize number old
 
--- ---- a line: its letter, and how many bytes it has and the buffer at their places
+-- ---- a line: its letter, and how many bytes it has, the tally and the buffer at their places
 pub data LineToC : Type 0 where
-  handedLine : ℕ → ℕ → List ℕ → LineToC
+  handedLine : ℕ → ℕ → Tally → List ℕ → LineToC
 
--- the letter, the bytes counted and the line at the buffer's start; or 0, and what stood there before, where it has no room
-abbrev pub lineToC : ℕ → List ℕ → Step → LineToC
-lineToC oldCount buffer l =
-    cond (fitsInto (l .text) (length buffer)) (handedLine (l .letter) (length (l .text)) (overlaid (l .text) buffer))
-    (handedLine 0 oldCount buffer)
+-- the tally after a line: with the line's quote, or as before after the last line
+abbrev pub tallyAfter : Tally → Progress → Tally
+tallyAfter t (Tallied next) = next
+tallyAfter t Over = t
+
+-- the letter, the bytes counted, the tally after the line and the line at the buffer's start; or 0, and what stood there before, where it has no room
+abbrev pub lineOf : ℕ → Tally → List ℕ → Step → LineToC
+lineOf oldCount t buffer l =
+    cond (fitsInto (l .text) (length buffer)) (handedLine (l .letter) (length (l .text)) (tallyAfter t (l .next)) (overlaid (l .text) buffer))
+    (handedLine 0 oldCount t buffer)
+
+-- of a sheet, after the lines of the quotes tallied
+abbrev pub lineToC : ℕ → Tally → List ℕ → List ℕ → LineToC
+lineToC oldCount t buffer sheet = lineOf oldCount t buffer (step sheet t)

@@ -5,6 +5,7 @@ use explicit_black::curves::SurvivalEvaluation;
 use explicit_black::price::PriceReply;
 use explicit_black::quote::Reply;
 use ladder::ladder::LadderReply;
+use xdr_sheet::printing::Progress;
 use xdr_sheet::sheet::SheetReply;
 use xdr_sheet::sheet::Size;
 use xdr_sheet::tally::Tally;
@@ -25,9 +26,8 @@ ghost use Rattle.explicit_black.specs.Price.{blackPrice};
 ghost use Rattle.explicit_black.specs.Replies.{viewReply};
 ghost use Rattle.ladder.specs.Ladder.{ladder};
 ghost use Rattle.xdr_sheet.specs.Sheet.{size, sheetReply};
-ghost use Rattle.xdr_sheet.specs.Printing.{step};
 ghost use Rattle.exports.specs.ToC.{handedReply, replyToC, sheetReplyToC, handedPrice, priceToC, handedLadder, ladderToC};
-ghost use Rattle.exports.specs.ToC.{handedSize, sizeToC, handedLine, lineToC};
+ghost use Rattle.exports.specs.ToC.{handedSize, sizeToC, tallyAfter, handedLine, lineToC};
 
 #[no_mangle]
 pub extern "C" fn quoter_sqrt(x: f64) -> f64
@@ -322,28 +322,50 @@ pub extern "C" fn quoter_sheet_quote(
     }
 }
 
-// The line that comes after so many answers and refusals, put at the start of `text`. Its letter, V, R, T
-// or S in ASCII, is returned, and its length written to `count`; or 0 is returned where `text` has no room for it.
+// The tally after a line: with the line's quote, or as before after the last line.
+fn tally_after(tally: Tally, progress: Progress) -> Tally
+    ensures { λ r. ⌜ r ≡ tallyAfter tally progress ⌝ }
+{
+    match progress {
+        Progress::Tallied(next) => next,
+        Progress::Over => tally,
+    }
+}
+
+// The line that comes after those of so many finite answers, infinite answers and refusals, put at the start of `text`. Its letter, V, R, T
+// or S in ASCII, is returned, its length written to `count`, and the tally is that after it; or 0 is returned where `text` has no room for it.
 #[no_mangle]
 pub extern "C" fn quoter_sheet_line(
     sheet: &[u8],
-    answers: u32,
-    refusals: u32,
+    finite: &mut u32,
+    infinite: &mut u32,
+    refusals: &mut u32,
     text: &mut [u8],
     count: &mut u64,
 ) -> u32
-    ensures { λ r. ⌜ handedLine r (now (count .exit)) (now (text .exit))
-        ≡ lineToC (now (count .entry)) (now (text .entry)) (step (now (sheet .entry)) (record { answers = answers; refusals = refusals })) ⌝ }
+    ensures { λ r. ⌜ handedLine r (now (count .exit)) (record {
+      finite = now (finite .exit);
+      infinite = now (infinite .exit);
+      refusals = now (refusals .exit);
+    }) (now (text .exit))
+        ≡ lineToC (now (count .entry)) (record { finite = now (finite .entry); infinite = now (infinite .entry); refusals = now (refusals .entry) })
+        (now (text .entry)) (now (sheet .entry)) ⌝ }
 {
     let tally = Tally {
-        answers: answers,
-        refusals: refusals,
+        finite: *finite,
+        infinite: *infinite,
+        refusals: *refusals,
     };
     let printed = xdr_sheet::printing::next_line(sheet, tally);
     let line = printed.line;
+    let progress = printed.next;
     match xdr_sheet::text::place(line, text) {
         Placed::Bytes(bytes) => {
             *count = bytes as u64;
+            let next = tally_after(tally, progress);
+            *finite = next.finite;
+            *infinite = next.infinite;
+            *refusals = next.refusals;
             printed.letter as u32
         }
         Placed::NoRoom => 0,

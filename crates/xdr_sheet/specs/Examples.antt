@@ -46,12 +46,12 @@ sample =
     ++ word 1 ++ five ++ hundred ++ hundredTwenty ++ one
 
 pub text-of-sample : text sample
-    ≡ ascii "1 V 0000000000000000 0000000000000000 0\n2 V 7ff0000000000000 7ff0000000000000 0\n3 R 7 0\nT 2 1\n"
+    ≡ ascii "1 V 0000000000000000 0000000000000000 0\n2 V 7ff0000000000000 7ff0000000000000 0\n3 R 7 0\nT 1 1 1\n"
 unfolding text impliedBlackVolatilityInput fromQuote firstRefusal fromPrice fromTimeValue volatilityOver sqrt add sub mul div lt le eq isNan ofBits toBits
 text-of-sample = refl
 
 -- no quotes
-pub text-of-no-quotes : text (word 0) ≡ ascii "T 0 0\n"
+pub text-of-no-quotes : text (word 0) ≡ ascii "T 0 0 0\n"
 unfolding text
 text-of-no-quotes = refl
 

@@ -3,3 +3,4 @@ pub mod Lines
 pub mod PriceRecord
 pub mod Printing
 pub mod Sheet
+pub mod Tally

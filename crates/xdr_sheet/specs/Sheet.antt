@@ -86,7 +86,7 @@ sheetReply s i = sheetReplyOf s i (size s)
 
 -- ---- its text
 
--- of the first n quotes: the lines, and how many are answered and refused
+-- of the first n quotes: the lines, and how many finite answers, infinite answers and refusals
 unfoldable pub lines : List ℕ → ℕ → List ℕ
 unfolding line replyFrom
 lines s zero = []

@@ -74,10 +74,10 @@ unfolding decimal priceFields refusalFields toBits
 priceLine number (price p) = decimal number ++ priceFields (toBits binary64 p)
 priceLine number (refusalOfPrice reason count) = decimal number ++ refusalFields reason count
 
--- the last line: `T`, answers, refusals
+-- the last line: `T`, finite answers, infinite answers, refusals
 unfoldable pub closing : Tally → List ℕ
 unfolding decimal
-closing t = ascii "T " ++ decimal (t .answers) ++ ascii " " ++ decimal (t .refusals) ++ ascii "\n"
+closing t = ascii "T " ++ decimal (t .finite) ++ ascii " " ++ decimal (t .infinite) ++ ascii " " ++ decimal (t .refusals) ++ ascii "\n"
 
 -- a refused sheet: `S` and the number
 unfoldable pub refusedSheet : ℕ → List ℕ

@@ -21,7 +21,7 @@ use crate::text::refused_line;
 use crate::text::reply_line;
 use explicit_black::quote::Reply;
 
-// How many answers and refusals are printed, or that the last line is.
+// What is printed: the lines of so many finite answers, infinite answers and refusals, or also the last line.
 pub enum Progress {
     Tallied(Tally),
     Over,

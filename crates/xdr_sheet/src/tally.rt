@@ -1,13 +1,15 @@
-// A tally of a sheet's first quotes: how many are answered and how many refused.
+// A tally of a sheet's first quotes: how many finite answers, infinite answers and refusals they have.
 ghost use mathlib.Core.Path.{_≡_};
 ghost use Prim.Native.Nat.{_<_};
 ghost use Rattle.explicit_black.specs.Replies.{viewReply};
 ghost use Rattle.xdr_sheet.specs.Sheet.{maxQuotes};
 ghost use Rattle.xdr_sheet.specs.Tally.{emptyTally, tallyWith, tallyCount};
+use arithmetic::basic::is_infinite;
 use explicit_black::quote::Reply;
 
 pub struct Tally {
-    pub answers: u32,
+    pub finite: u32,
+    pub infinite: u32,
     pub refusals: u32,
 }
 
@@ -16,7 +18,8 @@ impl Tally {
         ensures { λ r. ⌜ r ≡ emptyTally ⌝ }
     {
         Tally {
-            answers: 0,
+            finite: 0,
+            infinite: 0,
             refusals: 0,
         }
     }
@@ -25,10 +28,10 @@ impl Tally {
     pub(crate) fn quotes(self) -> u64
         ensures { λ r. ⌜ r ≡ tallyCount self ⌝ }
     {
-        self.answers as u64 + self.refusals as u64
+        self.finite as u64 + self.infinite as u64 + self.refusals as u64
     }
 
-    // The tally with one quote more, by its reply.
+    // The tally with one quote more, by its reply. An answer is infinite where its volatility is, whatever its total.
     pub(crate) fn with(self, reply: Reply) -> Tally
         requires { ⌜ tallyCount self < maxQuotes ⌝ }
         ensures { λ r. ⌜ r ≡ tallyWith self (viewReply reply) ⌝ }
@@ -36,17 +39,29 @@ impl Tally {
         match reply {
             Reply::Answer {
                 total: _,
-                volatility: _,
+                volatility,
                 count: _,
-            } => Tally {
-                answers: self.answers + 1,
-                refusals: self.refusals,
-            },
+            } => {
+                if is_infinite(volatility) {
+                    Tally {
+                        finite: self.finite,
+                        infinite: self.infinite + 1,
+                        refusals: self.refusals,
+                    }
+                } else {
+                    Tally {
+                        finite: self.finite + 1,
+                        infinite: self.infinite,
+                        refusals: self.refusals,
+                    }
+                }
+            }
             Reply::Refusal {
                 number: _,
                 count: _,
             } => Tally {
-                answers: self.answers,
+                finite: self.finite,
+                infinite: self.infinite,
                 refusals: self.refusals + 1,
             },
         }

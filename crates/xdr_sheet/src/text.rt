@@ -175,13 +175,15 @@ pub fn price_line(number: RecordNumber, reply: PriceReply) -> Line
     }
 }
 
-// The last line: how many quotes are answered and refused.
+// The last line: how many finite answers, infinite answers and refusals the quotes have.
 pub fn closing_line(tally: Tally) -> Line
     ensures { λ r. ⌜ written r ≡ closing tally ⌝ }
 {
     Line::empty()
         .bytes(b"T ")
-        .decimal(tally.answers as u64)
+        .decimal(tally.finite as u64)
+        .bytes(b" ")
+        .decimal(tally.infinite as u64)
         .bytes(b" ")
         .decimal(tally.refusals as u64)
         .bytes(b"\n")

@@ -11,33 +11,35 @@ at-place k = k .before .before
 
 abbrev at-line : tie.After-place → tie.After-next-line
 at-line w =
-    let line-taken = w .before .before in
-    line-taken .before
+    let progress-taken = w .before .before in
+    progress-taken .before
 
 abbrev entry : tie.After-next-line → tie.Start
 entry n =
-    let buffers-known = n .before in
+    let tallies-read = n .before in
+    let buffers-known = tallies-read .before .before .before in
     buffers-known .before .before
 
 returns : tie.Need-returns
 returns c =
-    let has-room = c .before .before in
+    let at-tally = c .before in
+    let has-room = at-tally .before .before in
     let w = at-place (has-room .before .before) in
     let n = at-line w in
     let a = entry n .args in
-    line-put (a .count .now) (a .text .now) (n .next-line .ensures) _ _
-    (sym (has-room .bytes .given .1) ∙ w .place .ensures .0) (w .place .ensures .1)
+    line-put (a .count .now) _ (a .text .now) (n .next-line .ensures) _ _ _
+    (sym (has-room .bytes .given .1) ∙ w .place .ensures .0) (at-tally .tally-after .ensures) (w .place .ensures .1)
 
 returns-2 : tie.Need-returns-2
 returns-2 c =
     let w = at-place (c .before .before) in
     let n = at-line w in
     let a = entry n .args in
-    line-not-put (a .count .now) (a .text .now) (n .next-line .ensures) _
+    line-not-put (a .count .now) _ (a .text .now) (n .next-line .ensures) _
     (sym (c .enum-told .given .1) ∙ w .place .ensures .0) (w .place .ensures .1)
 
 pub quoter-sheet-line-spec : {M : Type 1} → statement M
 quoter-sheet-line-spec =
     tie.close
-    (tie.spec (λ c κs. search needs) (λ c κs. search needs) (λ c. search needs) (λ c. search needs) (λ c. search needs) (λ c. search needs) returns
-    (λ c. search needs) returns-2)
+    (tie.spec (λ c κs. search needs) (λ c κs. search needs) (λ c. search needs) (λ c κs. search needs) (λ c. search needs) (λ c. search needs)
+    (λ c. search needs) returns (λ c. search needs) returns-2)

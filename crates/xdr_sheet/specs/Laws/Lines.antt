@@ -53,7 +53,7 @@ line-short number (refusal reason count) =
 
 pub closing-short : (t : Tally) → length (closing t) ≤ lineBytes
 unfolding closing
-closing-short t = simp length-append (omega (arith, decimal-short (t .answers), decimal-short (t .refusals)))
+closing-short t = simp length-append (omega (arith, decimal-short (t .finite), decimal-short (t .infinite), decimal-short (t .refusals)))
 
 pub refused-short : (number : ℕ) → length (refusedSheet number) ≤ lineBytes
 unfolding refusedSheet

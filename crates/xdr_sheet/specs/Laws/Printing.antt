@@ -9,13 +9,14 @@ use mathlib.Core.List.{List, [], _∷_, _++_, append-assoc, append-nil}
 use borrow.Author.Tests.{le-leb, lt-leb}
 use lib.ListN.{length, drop, length-append}
 use Rattle.arithmetic.specs.Laws.Choices.{in-both}
-use Rattle.explicit_black.specs.Quote.{Reply, answer, refusal}
+use Rattle.explicit_black.specs.Quote.{Reply}
 use Rattle.xdr_sheet.specs.Tally.{emptyTally, tallyWith, tallyCount}
 use Rattle.xdr_sheet.specs.Text.{lineBytes, line, closing, refusedSheet, fitsInto, overlaid}
 use Rattle.xdr_sheet.specs.Sheet.{Size, quotes, refused, size, replyAt, SheetReply, replied, noQuote, sheetReply}
 use Rattle.xdr_sheet.specs.Sheet.{lines, tally, textOf, text}
 use Rattle.xdr_sheet.specs.Laws.Sheet.{quote-there, quote-past}
 use Rattle.xdr_sheet.specs.Laws.Lines.{line-short, closing-short, refused-short}
+use Rattle.xdr_sheet.specs.Laws.Tally.{count-with, tally-counts}
 use Rattle.xdr_sheet.specs.Printing.{start, Step, quoteStep, lastStep, refusedStep, stepAt, stepOf, step}
 use Rattle.xdr_sheet.specs.Printing.{upcoming, restOf, rest, left}
 use Rattle.xdr_sheet.specs.Printing.{Part, noPart, _before_, partOf, part, parts, Roomy, FilledBuffer, filledWith}
@@ -24,10 +25,6 @@ use Rattle.xdr_sheet.specs.declared.tally.Tally.{Tally}
 use Rattle.xdr_sheet.specs.declared.printing.Progress.{Progress}
 use Rattle.xdr_sheet.specs.declared.printing.Progress.the-variants.{Tallied, Over}
 use Rattle.xdr_sheet.specs.declared.printing.Filled.{Filled}
-
-count-with : (t : Tally) (r : Reply) → tallyCount (tallyWith t r) ≡ suc (tallyCount t)
-count-with t (answer total volatility count) = omega arith
-count-with t (refusal number count) = omega arith
 
 -- ---- the line after those of the quotes tallied, by what the sheet has
 module _ (s : List ℕ) (t : Tally) where
@@ -164,11 +161,6 @@ parts-end s (Tallied t) (room ∷ rooms) h g =
     parts-end s (part s (Tallied t) room .next) rooms (h .1) (omega (arith, part-falls s t room (h .0)))
 
 -- ---- all that comes after the start
-tally-counts : (s : List ℕ) (i : ℕ) → tallyCount (tally s i) ≡ i
-unfolding tally
-tally-counts s zero = refl
-tally-counts s (suc i) = count-with (tally s i) (replyAt s i) ∙ ap suc (tally-counts s i)
-
 -- after the lines of i quotes, where k are left
 from-quote : (s : List ℕ) (n k i : ℕ) → i + k ≡ n → lines s i ++ joined (upcoming s (tally s i) k) ≡ lines s n ++ closing (tally s n)
 unfolding upcoming lines tally

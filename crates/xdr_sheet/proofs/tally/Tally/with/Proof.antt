@@ -1,13 +1,27 @@
--- `tally::Tally::with` meets its contract: by the kind of the reply. Assumes nothing.
+-- `tally::Tally::with` meets its contract: by the kind of the reply, and of an answer by its volatility. Assumes nothing.
 use borrow.Author.Needs.{needs}
 use Rattle.xdr_sheet.proofs.tally.Tally.with.Statement.{statement}
 use Rattle.xdr_sheet.proofs.tally.Tally.with.Tie as tie
 
 returns : tie.Need-returns
-returns c = rw (c .before .enum-told .given .1)
+returns c =
+    let infinite = c .before in
+    let tested = infinite .before in
+    let answered = tested .before .before in
+    rw (answered .reply .given .1, ← tested .is-infinite .ensures, infinite .if1 .taken)
 
 returns-2 : tie.Need-returns-2
-returns-2 c = rw (c .before .enum-told2 .given .1)
+returns-2 c =
+    let finite = c .before in
+    let tested = finite .before in
+    let answered = tested .before .before in
+    rw (answered .reply .given .1, ← tested .is-infinite .ensures, finite .if1 .left)
+
+returns-3 : tie.Need-returns-3
+returns-3 c = rw (c .before .enum-told .given .1)
 
 pub with-spec : {M : Type 1} → statement M
-with-spec = tie.close (tie.spec (λ c. search needs) (λ c. search needs) (λ c. search needs) (λ c. search needs) returns returns-2)
+with-spec =
+    tie.close
+    (tie.spec (λ c. search needs) (λ c κs. search needs) (λ c. search needs) (λ c. search needs) (λ c. search needs) (λ c. search needs) returns returns-2
+    returns-3)

@@ -109,11 +109,13 @@ uint32_t quoter_sheet_size(const uint8_t *sheet, uint64_t length, uint32_t *quot
 uint32_t quoter_sheet_quote(const uint8_t *sheet, uint64_t length, uint64_t index,
                             double *total, double *volatility, uint64_t *count);
 
-/* The line of a sheet's text that comes after the lines of so many answers and refusals: start at 0 and 0, count one more answer after each 'V'
-   and one more refusal after each 'R', and stop after 'T', the tally, or 'S', a refused sheet.
-   Returns that letter: the line, at most 46 bytes with a newline at its end and no zero byte, is written to the start of `text`, the rest of
-   which stays as it was, and its number of bytes to `count`. Returns 0 where `room` is less than that: nothing is written. */
-uint32_t quoter_sheet_line(const uint8_t *sheet, uint64_t length, uint32_t answers, uint32_t refusals,
+/* The line of a sheet's text that comes after those of so many finite answers, infinite answers and refusals; an answer is infinite where its
+   volatility is. Start the three tallies at 0, hand them to each call unchanged, and stop after 'T', the last line, or 'S', a refused sheet.
+   Returns the line's letter, 'V' for an answer, 'R' for a refusal, 'T' or 'S': the line, at most 46 bytes with a newline at its end and no zero
+   byte, is written to the start of `text`, the rest of which stays as it was, and its number of bytes to `count`. After 'V' and 'R' the line's
+   quote has been counted in its tally; after 'T' and 'S' the tallies are as they were.
+   Returns 0 where `room` is less than that: nothing is written, and the tallies too are as they were. */
+uint32_t quoter_sheet_line(const uint8_t *sheet, uint64_t length, uint32_t *finite, uint32_t *infinite, uint32_t *refusals,
                            uint8_t *text, uint64_t room, uint64_t *count);
 
 #ifdef __cplusplus

@@ -999,6 +999,47 @@ fn refused() -> Vec<Quote> {
     list
 }
 
+/// A price at its bound: the forward of a call, the strike of a put.
+pub fn at_bound(side: u32, forward: f64, strike: f64, time: f64) -> Quote {
+    quote(side, if side == 0 { forward } else { strike }, forward, strike, time)
+}
+
+fn one_below(q: Quote) -> Quote {
+    Quote { price: step(q.price, -1), ..q }
+}
+
+/// Infinite answers to prices below their bound: the normalised time value is b_max. The last four are 1,019 and 1,008 units of the last place
+/// below it, the most of 20 million.
+fn infinite_below() -> Vec<Quote> {
+    let near = [(0, 161.55, 305.0), (1, 61550.33, 61442.0), (0, 1.72, 1.5), (1, 0.96, 1.07), (0, 1.37, 1.37)];
+    let mut list = near.map(|(side, forward, strike)| one_below(at_bound(side, forward, strike, 1.0))).to_vec();
+    for time in [1.0, power(-1074)] {
+        list.push(quote(0, 1.8628344004151702e-301, 1.8628344004153814e-301, 5.204728145587283e302, time));
+        list.push(quote(1, 1.8652984766675849e-301, 1.1946529610980787e307, 1.8652984766677938e-301, time));
+    }
+    list
+}
+
+/// Quotes that tell wrong tallies apart. Infinite: prices at their bound, and some below. Finite: prices one unit below their bound; the quote
+/// with the largest finite total, 81.02, of 28 million; and at time zero prices at a bound that is the intrinsic value too, 1 - 2^-1074 being
+/// rounded to 1. No volatility is larger than at time 2^-1074.
+fn limits() -> Vec<Quote> {
+    let tiny = power(-1074);
+    let mut list = Vec::new();
+    for (side, forward, strike) in [(0, 100.0, 120.0), (1, 100.0, 120.0), (0, 120.0, 100.0), (1, 120.0, 100.0)] {
+        let at = |time: f64| at_bound(side, forward, strike, time);
+        list.extend([1.0, tiny, 1.0e-300, 1.0e300, f64::MAX].map(at));
+        list.extend([1.0, tiny, f64::MAX].map(at).map(one_below));
+    }
+    list.extend(infinite_below());
+    let largest = |time: f64| quote(0, 2.5142006341763066e177, 2.5142006341763237e177, 9.700938085135061e246, time);
+    list.extend([1.0, tiny].map(largest));
+    for time in [0.0, -0.0, 1.0] {
+        list.extend([at_bound(0, 1.0, tiny, time), at_bound(1, tiny, 1.0, time)]);
+    }
+    list
+}
+
 /// Examples, the longest search, minus zeros and refusals.
 pub fn known() -> Vec<Quote> {
     [examples(), doubled().to_vec(), vec![longest()], minus_zeros(), refused()].concat()
@@ -1006,7 +1047,7 @@ pub fn known() -> Vec<Quote> {
 
 /// The quotes of the sheet that the repository keeps: 1,000.
 pub fn kept(seed: u64) -> Vec<Quote> {
-    let mut list = known();
+    let mut list = [known(), limits()].concat();
     let mut rng = Rng::new(seed);
     for on_survival_path in [true, false] {
         list.extend((0..125).map(|_| searched(&mut rng, on_survival_path)));

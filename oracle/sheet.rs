@@ -22,7 +22,7 @@ pub fn text(sheet: &[u8]) -> String {
     for (i, q) in sheet[4..].chunks(36).enumerate() {
         let result = quote(word(q, 0), double(q, 4), double(q, 12), double(q, 20), double(q, 28));
         match result {
-            Outcome::Answer { volatility, .. } if volatility == f64::INFINITY => infinite += 1,
+            Outcome::Answer { volatility, .. } if volatility.is_infinite() => infinite += 1,
             Outcome::Answer { .. } => finite += 1,
             Outcome::Refusal { .. } => refusals += 1,
         }

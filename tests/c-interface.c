@@ -1,6 +1,6 @@
 /* Calls every function of include/quoter.h.
 
-   usage: c-interface             values known from docs/REQUIREMENTS.md: refusals, the sample sheet, keystrokes, prices, ladders
+   usage: c-interface             values known from docs/REQUIREMENTS.md: refusals, the sample sheet, tallies, keystrokes, prices, ladders
           c-interface vectors     the interface of `vectors` but for signum, max and min
           c-interface lines       the interface of `sheet`, by quoter_sheet_line
           c-interface quotes      the same, by quoter_sheet_size and quoter_sheet_quote
@@ -408,21 +408,34 @@ static void known_modes(void)
     }
 }
 
-/* The sample of docs/REQUIREMENTS.md: 3 quotes, and the 4 lines of its text. */
-static const char *LINES[4] = {
-    "1 V 0000000000000000 0000000000000000 0\n", "2 V 7ff0000000000000 7ff0000000000000 0\n", "3 R 7 0\n", "T 2 1\n"};
-static uint8_t sample[4 + 36 * 3];
+/* The fields of a quote, and what the words say of it: its refusal or 0, and its total, which is also its volatility. */
+struct listed {
+    uint32_t side;
+    double price, forward, strike, time;
+    uint32_t number;
+    double total;
+};
 
-static void write_sample(void)
+/* Writes a sheet of the list's quotes over and over; its length in bytes. */
+static uint64_t write_sheet(uint8_t *sheet, const struct listed *list, int listed, int quotes)
 {
-    static const double figures[3][4] = {{0.0, 100.0, 120.0, 1.0}, {100.0, 100.0, 120.0, 1.0}, {5.0, 100.0, 120.0, 1.0}};
-    put(sample, 3, 4);
-    for (int i = 0; i < 3; i++) {
-        put(sample + 4 + 36 * i, i == 2, 4);
+    put(sheet, (uint64_t)quotes, 4);
+    for (int i = 0; i < quotes; i++) {
+        const struct listed *q = &list[i % listed];
+        const double figures[4] = {q->price, q->forward, q->strike, q->time};
+        put(sheet + 4 + 36 * i, q->side, 4);
         for (int j = 0; j < 4; j++)
-            put(sample + 8 + 36 * i + 8 * j, bits(figures[i][j]), 8);
+            put(sheet + 8 + 36 * i + 8 * j, bits(figures[j]), 8);
     }
+    return 4 + 36 * (uint64_t)quotes;
 }
+
+/* The sample of docs/REQUIREMENTS.md: 3 quotes, and the 4 lines of its text. */
+static const struct listed SAMPLE[3] = {
+    {0, 0.0, 100.0, 120.0, 1.0, 0, 0.0}, {0, 100.0, 100.0, 120.0, 1.0, 0, INFINITY}, {1, 5.0, 100.0, 120.0, 1.0, 7, 0.0}};
+static const char *LINES[4] = {
+    "1 V 0000000000000000 0000000000000000 0\n", "2 V 7ff0000000000000 7ff0000000000000 0\n", "3 R 7 0\n", "T 1 1 1\n"};
+static uint8_t sample[4 + 36 * 3];
 
 /* The number that a sheet gives, and its number of quotes, which a refusal leaves as it was. */
 static void size(const char *what, const uint8_t *sheet, uint64_t length, uint32_t number, uint32_t right)
@@ -472,39 +485,169 @@ static void known_quotes(void)
     check("QUOTER_NO_QUOTE", QUOTER_NO_QUOTE == 0xFFFFFFFFu);
 }
 
-/* A line: its letter, its bytes and their number where there is room, nothing where there is one byte less. */
-static void line(const char *what, const uint8_t *sheet, uint64_t length, uint32_t answers, uint32_t refusals, char letter, const char *right)
+/* How many finite answers, infinite answers and refusals. */
+struct tally {
+    uint32_t finite, infinite, refusals;
+};
+
+static uint32_t next_line(const uint8_t *sheet, uint64_t length, struct tally *t, uint8_t *text, uint64_t room, uint64_t *count)
+{
+    return quoter_sheet_line(sheet, length, &t->finite, &t->infinite, &t->refusals, text, room, count);
+}
+
+static int same(struct tally a, struct tally b)
+{
+    return a.finite == b.finite && a.infinite == b.infinite && a.refusals == b.refusals;
+}
+
+/* The line after the tally `given`: its letter, its bytes, their number and the tally after it where there is room, for it alone or for more; nothing
+   where there is one byte less. */
+static void line(const char *what, const uint8_t *sheet, uint64_t length, struct tally given, char letter, const char *right, struct tally after)
 {
     uint8_t text[80], before[80];
     uint64_t bytes = strlen(right), count = 7;
+    struct tally found = given;
     memset(text, '#', sizeof text);
     memset(before, '#', sizeof before);
-    uint32_t found = quoter_sheet_line(sheet, length, answers, refusals, text, bytes - 1, &count);
-    check(what, found == 0 && count == 7 && memcmp(text, before, sizeof text) == 0);
-    found = quoter_sheet_line(sheet, length, answers, refusals, text, bytes, &count);
+    uint32_t returned = next_line(sheet, length, &found, text, bytes - 1, &count);
+    check(what, returned == 0 && count == 7 && same(found, given) && memcmp(text, before, sizeof text) == 0);
     memcpy(before, right, bytes);
-    check(what, found == (uint32_t)letter && count == bytes && memcmp(text, before, sizeof text) == 0);
+    for (uint64_t room = bytes; room <= sizeof text; room += sizeof text - bytes) {
+        memset(text, '#', sizeof text);
+        found = given;
+        count = 7;
+        returned = next_line(sheet, length, &found, text, room, &count);
+        check(what, returned == (uint32_t)letter && count == bytes && same(found, after) && memcmp(text, before, sizeof text) == 0);
+    }
+}
+
+/* A line that leaves the tally as it was. */
+static void last(const char *what, const uint8_t *sheet, uint64_t length, struct tally given, char letter, const char *right)
+{
+    line(what, sheet, length, given, letter, right, given);
 }
 
 static void known_lines(void)
 {
     static const uint8_t empty[4];
+    const struct tally none = {0, 0, 0}, most = {UINT32_MAX, UINT32_MAX, UINT32_MAX};
+    struct tally found = none;
     uint64_t count = 7;
-    line("first line", sample, sizeof sample, 0, 0, 'V', LINES[0]);
-    line("second line", sample, sizeof sample, 1, 0, 'V', LINES[1]);
-    line("third line", sample, sizeof sample, 2, 0, 'R', LINES[2]);
-    line("last line", sample, sizeof sample, 2, 1, 'T', LINES[3]);
-    line("tallies as given", sample, sizeof sample, UINT32_MAX, UINT32_MAX, 'T', "T 4294967295 4294967295\n");
-    line("empty sheet", empty, sizeof empty, 0, 0, 'T', "T 0 0\n");
-    line("refused sheet", sample, 3, 0, 0, 'S', "S 10\n");
-    line("refused sheet, later", sample, 3, 5, 5, 'S', "S 10\n");
-    line("no bytes", NULL, 0, 0, 0, 'S', "S 10\n");
-    check("no room and no pointer", quoter_sheet_line(sample, sizeof sample, 0, 0, NULL, 0, &count) == 0 && count == 7);
+    line("first line", sample, sizeof sample, none, 'V', LINES[0], (struct tally){1, 0, 0});
+    line("second line", sample, sizeof sample, (struct tally){1, 0, 0}, 'V', LINES[1], (struct tally){1, 1, 0});
+    line("third line", sample, sizeof sample, (struct tally){1, 1, 0}, 'R', LINES[2], (struct tally){1, 1, 1});
+    last("last line", sample, sizeof sample, (struct tally){1, 1, 1}, 'T', LINES[3]);
+    last("empty sheet", empty, sizeof empty, none, 'T', "T 0 0 0\n");
+    last("empty sheet, later", empty, sizeof empty, (struct tally){7, 8, 9}, 'T', "T 7 8 9\n");
+    last("refused sheet", sample, 3, none, 'S', "S 10\n");
+    last("refused sheet, later", sample, 3, (struct tally){1, 0, 1}, 'S', "S 10\n");
+    last("refused sheet, largest tallies", sample, 3, most, 'S', "S 10\n");
+    last("no bytes", NULL, 0, none, 'S', "S 10\n");
+    check("no room and no pointer", next_line(sample, sizeof sample, &found, NULL, 0, &count) == 0 && count == 7 && same(found, none));
+}
+
+/* Tallies that no lines leave. Their sum alone says which line comes, and is not taken modulo 2^32. */
+static void known_tallies(void)
+{
+    const struct tally most = {UINT32_MAX, UINT32_MAX, UINT32_MAX};
+    line("one refusal before", sample, sizeof sample, (struct tally){0, 0, 1}, 'V', LINES[1], (struct tally){0, 1, 1});
+    line("one infinite answer before", sample, sizeof sample, (struct tally){0, 1, 0}, 'V', LINES[1], (struct tally){0, 2, 0});
+    line("a finite answer and a refusal before", sample, sizeof sample, (struct tally){1, 0, 1}, 'R', LINES[2], (struct tally){1, 0, 2});
+    line("two finite answers before", sample, sizeof sample, (struct tally){2, 0, 0}, 'R', LINES[2], (struct tally){2, 0, 1});
+    line("two infinite answers before", sample, sizeof sample, (struct tally){0, 2, 0}, 'R', LINES[2], (struct tally){0, 2, 1});
+    line("two refusals before", sample, sizeof sample, (struct tally){0, 0, 2}, 'R', LINES[2], (struct tally){0, 0, 3});
+    last("three finite answers before", sample, sizeof sample, (struct tally){3, 0, 0}, 'T', "T 3 0 0\n");
+    last("three infinite answers before", sample, sizeof sample, (struct tally){0, 3, 0}, 'T', "T 0 3 0\n");
+    last("three refusals before", sample, sizeof sample, (struct tally){0, 0, 3}, 'T', "T 0 0 3\n");
+    last("tallies as given", sample, sizeof sample, (struct tally){12, 345, 6789}, 'T', "T 12 345 6789\n");
+    last("largest tallies", sample, sizeof sample, most, 'T', "T 4294967295 4294967295 4294967295\n");
+    last("largest finite", sample, sizeof sample, (struct tally){UINT32_MAX, 0, 0}, 'T', "T 4294967295 0 0\n");
+    last("largest infinite", sample, sizeof sample, (struct tally){0, UINT32_MAX, 0}, 'T', "T 0 4294967295 0\n");
+    last("largest refusals", sample, sizeof sample, (struct tally){0, 0, UINT32_MAX}, 'T', "T 0 0 4294967295\n");
+    last("sum 2^32", sample, sizeof sample, (struct tally){UINT32_MAX, 1, 0}, 'T', "T 4294967295 1 0\n");
+    last("sum 2^32 + 1", sample, sizeof sample, (struct tally){0x80000000, 0x80000000, 1}, 'T', "T 2147483648 2147483648 1\n");
+    last("sum 2^33", sample, sizeof sample, (struct tally){UINT32_MAX, 2, UINT32_MAX}, 'T', "T 4294967295 2 4294967295\n");
+}
+
+/* Prices at their bound, beside other answers and refusals. At time zero such a price is the intrinsic value too, and finite, where forward and strike
+   are so far apart that their difference rounds to one of them. */
+static const struct listed LIMITS[] = {
+    {0, 100.0, 100.0, 120.0, 0x1p-1074, 0, INFINITY}, {0, 0.0, 100.0, 120.0, 0x1p-1074, 0, 0.0}, {1, 120.0, 100.0, 120.0, 1.0, 0, INFINITY},
+    {0, 120.0, 120.0, 100.0, DBL_MAX, 0, INFINITY}, {1, 100.0, 120.0, 100.0, 1e-300, 0, INFINITY}, {1, 0.0, 120.0, 100.0, DBL_MAX, 0, 0.0},
+    {2, 100.0, 100.0, 120.0, 1.0, 1, 0.0}, {0, 100.0, 100.0, 120.0, INFINITY, 2, 0.0}, {0, 100.0, 100.0, 120.0, 0.0, 5, 0.0},
+    {0, 100.0, 100.0, 0x1p-1074, 0.0, 0, 0.0}, {0, 100.0, 100.0, 0x1p-1074, 1.0, 0, INFINITY}, {1, 100.0, 0x1p-1074, 100.0, -0.0, 0, 0.0},
+    {0, 100.0 + 0x1p-46, 100.0, 120.0, 1.0, 6, 0.0}, {1, 0x1p-1074, 0x1p-1074, 0x1p-1074, 1e300, 0, INFINITY}, {1, 5.0, 100.0, 120.0, 1.0, 7, 0.0},
+};
+
+/* One more, by what the words say of the quote. */
+static struct tally with(struct tally t, const struct listed *q)
+{
+    if (q->number != 0)
+        t.refusals++;
+    else if (isinf(q->total))
+        t.infinite++;
+    else
+        t.finite++;
+    return t;
+}
+
+/* A sheet of the list's quotes over and over, line by line as a caller prints it, who counts nothing. */
+static void walk(const char *what, const struct listed *list, int listed, int quotes)
+{
+    static uint8_t sheet[4 + 36 * 1000];
+    uint64_t length = write_sheet(sheet, list, listed, quotes), count = 0;
+    struct tally found = {0, 0, 0}, right = {0, 0, 0};
+    char text[46], expected[80];
+    for (int i = 0; i < quotes; i++) {
+        const struct listed *q = &list[i % listed];
+        uint32_t letter = next_line(sheet, length, &found, (uint8_t *)text, sizeof text, &count);
+        right = with(right, q);
+        int bytes = q->number != 0 ? sprintf(expected, "%d R %" PRIu32 " 0\n", i + 1, q->number)
+                                   : sprintf(expected, "%d V %016" PRIx64 " %016" PRIx64 " 0\n", i + 1, bits(q->total), bits(q->total));
+        int as_known = count == (uint64_t)bytes && memcmp(text, expected, (size_t)bytes) == 0;
+        check(what, letter == (q->number != 0 ? 'R' : 'V') && as_known && same(found, right));
+    }
+    uint32_t letter = next_line(sheet, length, &found, (uint8_t *)text, sizeof text, &count);
+    int bytes = sprintf(expected, "T %" PRIu32 " %" PRIu32 " %" PRIu32 "\n", right.finite, right.infinite, right.refusals);
+    check(what, letter == 'T' && count == (uint64_t)bytes && memcmp(text, expected, (size_t)bytes) == 0 && same(found, right));
+}
+
+/* The tally after the line of a quote by itself, whatever its figures are. */
+static void counted(const char *what, uint32_t side, double price, double forward, double strike, double time, struct tally right)
+{
+    const struct listed q = {side, price, forward, strike, time, 0, 0.0};
+    uint8_t sheet[4 + 36], text[46];
+    uint64_t length = write_sheet(sheet, &q, 1, 1), count;
+    struct tally found = {0, 0, 0};
+    uint32_t letter = next_line(sheet, length, &found, text, sizeof text, &count);
+    check(what, letter == 'V' && same(found, right));
+}
+
+/* A price below its bound is infinite where its normalised time value is b_max. At time 2^-1074 a volatility is 2^537 times its total. */
+static void known_limits(void)
+{
+    const struct tally finite = {1, 0, 0}, infinite = {0, 1, 0};
+    counted("call below its bound, b_max", 0, 161.54999999999998, 161.55, 305.0, 1.0, infinite);
+    counted("put below its bound, b_max", 1, 1.0699999999999998, 0.96, 1.07, 1.0, infinite);
+    counted("call far below its bound, b_max", 0, 1.8628344004151702e-301, 1.8628344004153814e-301, 5.204728145587283e302, DBL_MAX, infinite);
+    counted("call one unit below its bound", 0, 100.0 - 0x1p-46, 100.0, 120.0, 0x1p-1074, finite);
+    counted("put one unit below its bound", 1, 100.0 - 0x1p-46, 120.0, 100.0, 0x1p-1074, finite);
+    counted("the largest total found", 0, 2.5142006341763066e177, 2.5142006341763237e177, 9.700938085135061e246, 0x1p-1074, finite);
+}
+
+static void known_walks(void)
+{
+    walk("lines of the sample", SAMPLE, 3, 3);
+    walk("lines of no quotes", SAMPLE, 3, 0);
+    for (int i = 0; i < PLACES(LIMITS); i++)
+        walk("lines of one quote", LIMITS + i, 1, 1);
+    walk("lines of 1000 prices at their bound", LIMITS, 1, 1000);
+    walk("lines of 1000 quotes", LIMITS, PLACES(LIMITS), 1000);
 }
 
 static int known(void)
 {
-    write_sample();
+    write_sheet(sample, SAMPLE, 3, 3);
     known_values();
     known_replies();
     known_pair();
@@ -517,6 +660,9 @@ static int known(void)
     known_sizes();
     known_quotes();
     known_lines();
+    known_tallies();
+    known_limits();
+    known_walks();
     printf("%u checks, %u differ\n", run, differ);
     return differ > 0;
 }
@@ -565,29 +711,27 @@ static int vectors(void)
     return 0;
 }
 
-/* Exit status 1 where a line is over the 46 bytes of the header, or the letter is not one that it names. */
+/* Exit status 1 where a line is over the 46 bytes of the header, the letter is not one that it names, or no line is the last. */
 static int lines(const uint8_t *sheet, uint64_t length)
 {
     uint8_t text[46];
-    uint32_t answers = 0, refusals = 0;
-    for (;;) {
+    uint32_t finite = 0, infinite = 0, refusals = 0;
+    for (int i = 0; i <= 1000; i++) {
         uint64_t count = 0;
-        uint32_t letter = quoter_sheet_line(sheet, length, answers, refusals, text, sizeof text, &count);
+        uint32_t letter = quoter_sheet_line(sheet, length, &finite, &infinite, &refusals, text, sizeof text, &count);
         fwrite(text, 1, (size_t)count, stdout);
-        switch (letter) {
-        case 'V': answers++; break;
-        case 'R': refusals++; break;
-        case 'T':
-        case 'S': return 0;
-        default: return 1;
-        }
+        if (letter == 'T' || letter == 'S')
+            return 0;
+        if (letter != 'V' && letter != 'R')
+            return 1;
     }
+    return 1;
 }
 
 /* Exit status 1 where a quote takes more evaluations than the header says. */
 static int quotes(const uint8_t *sheet, uint64_t length)
 {
-    uint32_t count = 0, answers = 0;
+    uint32_t count = 0, infinite = 0, refusals = 0;
     uint32_t refused = quoter_sheet_size(sheet, length, &count);
     if (refused != 0) {
         printf("S %" PRIu32 "\n", refused);
@@ -599,11 +743,12 @@ static int quotes(const uint8_t *sheet, uint64_t length)
         uint32_t number = quoter_sheet_quote(sheet, length, i, &total, &volatility, &evaluations);
         if (evaluations > 2263)
             return 1;
-        answers += number == 0;
+        refusals += number != 0;
+        infinite += number == 0 && isinf(volatility);
         printf("%" PRIu32 " ", i + 1);
         print_reply(number, total, volatility, evaluations);
     }
-    printf("T %" PRIu32 " %" PRIu32 "\n", answers, count - answers);
+    printf("T %" PRIu32 " %" PRIu32 " %" PRIu32 "\n", count - infinite - refusals, infinite, refusals);
     return 0;
 }
 

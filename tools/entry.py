@@ -49,17 +49,22 @@ def solved(refusal, found):
     return None, [number(volatility), number(total), count]
 
 
+def answered(replies):
+    """What a table ends with: how many answers and refusals."""
+    count = sum(refusal is None for refusal, _ in replies)
+    return f"{count} answered, {len(replies) - count} refused"
+
+
 def numbered(lines, count, answer, ending):
     """The replies in the lines of a program that numbers them: (None, groups of the pattern `answer`), or (refusal, its count). None where the
-    lines are not those of `count` records. `ending` says of a number of answers which lines come last."""
+    lines are not those of `count` records. `ending` says of the replies which lines come last."""
     found = []
     for i, line in enumerate(lines[:count], 1):
         if match := re.fullmatch(f"{i} {answer}", line):
             found.append((None, match.groups()))
         elif match := re.fullmatch(rf"{i} R (\d+) (\d+)", line):
             found.append((int(match[1]), match[2]))
-    answers = sum(refusal is None for refusal, _ in found)
-    return found if len(found) == count and lines[count:] == ending(answers) else None
+    return found if len(found) == count and lines[count:] == ending(found) else None
 
 
 class Entry:
@@ -149,7 +154,7 @@ class Entry:
             if result != "-":
                 print(f"{name.ljust(width)}  {result}")
 
-    def table(self, records, replies, tail=""):
+    def table(self, records, replies, tally):
         rows = [["", *self.names, *self.results]]
         notes = [""]
         for i, (fields, (refusal, results)) in enumerate(zip(records, replies), 1):
@@ -159,8 +164,7 @@ class Entry:
         widths = [max(len(row[k]) for row in rows) for k in range(len(rows[0]))]
         for row, note in zip(rows, notes):
             print("  ".join([field.rjust(width) for field, width in zip(row, widths)] + [note]).rstrip())
-        answered = sum(refusal is None for refusal, _ in replies)
-        print(f"{len(records)} {self.record}s: {answered} answered, {len(records) - answered} refused{tail}")
+        print(f"{len(records)} {self.record}s: {tally}")
 
     def words(self, usage):
         """The command's words, where they do not ask for the usage."""
@@ -169,8 +173,9 @@ class Entry:
             sys.exit(print(usage))
         return words
 
-    def main(self, replies_to, usage):
-        """`replies_to` has a pair for each of the records: None or the refusal, and the results as text, `-` for what a refusal leaves out."""
+    def main(self, replies_to, usage, tally=answered):
+        """`replies_to` has a pair for each of the records: None or the refusal, and the results as text, `-` for what a refusal leaves out. `tally`
+        says of the replies what a table ends with."""
         words = self.words(usage)
         if len(words) == 5:
             given = self.fields(words)
@@ -179,6 +184,7 @@ class Entry:
         elif len(words) == 1:
             given = self.records_of(words[0])
             self.build()
-            self.table(given, replies_to(given))
+            replies = replies_to(given)
+            self.table(given, replies, tally(replies))
         else:
             self.stop(2, f"five fields or one CSV file\n{usage}")

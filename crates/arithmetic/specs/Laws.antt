@@ -28,6 +28,7 @@ pub mod SqrtValues
 pub mod SqrtScaling
 pub mod SqrtNearest
 pub mod SqrtBounds
+pub mod RootBounds
 -- What `exp` and `ln` rest on; quotients by roots:
 pub mod PowersOfTwo
 pub mod ExpFits

@@ -13,6 +13,7 @@ pub mod Price
 pub mod Replies
 pub mod Demand
 pub mod Guards
+pub mod Infinite
 pub mod Internal
 pub mod Laws
 pub mod Keystrokes

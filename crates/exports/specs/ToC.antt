@@ -1,7 +1,7 @@
 -- What C is handed by a call: the number that is returned, and what then stands at the places that the caller gave. Definitions only.
-use Prim.Native.Nat.{ℕ}
+use Prim.Native.Nat.{ℕ, zero, suc}
 use mathlib.Core.Bool.{cond}
-use mathlib.Core.List.{List}
+use mathlib.Core.List.{List, [], _++_}
 use lib.Ieee.{Float}
 use lib.ListN.{length}
 use Rattle.explicit_black.specs.Quote.{Reply, answer, refusal}
@@ -80,6 +80,11 @@ abbrev pub lineOf : ℕ → Tally → List ℕ → Step → LineToC
 lineOf oldCount t buffer l =
     cond (fitsInto (l .text) (length buffer)) (handedLine (l .letter) (length (l .text)) (tallyAfter t (l .next)) (overlaid (l .text) buffer))
     (handedLine 0 oldCount t buffer)
+
+-- the text of so many calls that have room, each with the tally that the one before left
+unfoldable pub calls : List ℕ → Tally → ℕ → List ℕ
+calls sheet t zero = []
+calls sheet t (suc k) = step sheet t .text ++ calls sheet (tallyAfter t (step sheet t .next)) k
 
 -- of a sheet, after the lines of the quotes tallied
 abbrev pub lineToC : ℕ → Tally → List ℕ → List ℕ → LineToC

@@ -3,3 +3,4 @@ pub mod SharedExponential
 pub mod Polynomial
 pub mod PolynomialBounds
 pub mod ErfcxBounds
+pub mod ErfinvBounds

@@ -1,13 +1,15 @@
--- The sheet of REQUIREMENTS 11.4, one of no quotes and one that is refused, with their text to the byte; records of prices with their lines.
--- Assumes nothing.
+-- The sheet of REQUIREMENTS 11.4, one of no quotes and one that is refused, with their text to the byte; answers as they are tallied; records of
+-- prices with their lines. Assumes nothing.
 use mathlib.Core.Path.{_≡_, refl}
 use Prim.Native.Nat.{ℕ}
 use mathlib.Core.List.{List, [], _∷_, _++_}
 use lib.Ieee.{add, sub, mul, div, lt, le, eq, isNan, ofBits, toBits}
 use Rattle.arithmetic.specs.Sqrt.{sqrt}
-use Rattle.explicit_black.specs.Quote.{volatilityOver, firstRefusal, fromTimeValue, fromPrice, fromQuote, impliedBlackVolatilityInput}
+use Rattle.arithmetic.specs.Operations.{bits, infinity}
+use Rattle.explicit_black.specs.Quote.{answer, volatilityOver, firstRefusal, fromTimeValue, fromPrice, fromQuote, impliedBlackVolatilityInput}
 use Rattle.explicit_black.specs.Price.{priceRefusal, priceOf, blackPrice}
-use Rattle.xdr_sheet.specs.Text.{ascii, priceLine}
+use Rattle.xdr_sheet.specs.Tally.{emptyTally, tallyWith}
+use Rattle.xdr_sheet.specs.Text.{ascii, priceLine, closing}
 use Rattle.xdr_sheet.specs.Sheet.{text}
 use Rattle.xdr_sheet.specs.PriceRecord.{priceReply}
 
@@ -59,6 +61,17 @@ text-of-no-quotes = refl
 pub text-of-no-sheet : text (0 ∷ 0 ∷ 0 ∷ []) ≡ ascii "S 10\n"
 unfolding text
 text-of-no-sheet = refl
+
+-- the order in the last line
+pub closing-in-order : closing (record { finite = 3; infinite = 2; refusals = 1 }) ≡ ascii "T 3 2 1\n"
+unfolding closing
+closing-in-order = refl
+
+-- an answer is tallied by its volatility: infinite beside a finite total, which no quote is known to get, and finite beside an infinite one
+pub tallied-by-volatility : (tallyWith emptyTally (answer (bits 0x3FF0_0000_0000_0000) infinity 0) ≡ record { finite = 0; infinite = 1; refusals = 0 })
+    × (tallyWith emptyTally (answer infinity (bits 0x3FF0_0000_0000_0000) 0) ≡ record { finite = 1; infinite = 0; refusals = 0 })
+unfolding isNan ofBits
+tallied-by-volatility = (refl, refl)
 
 -- ---- prices: side, volatility, forward, strike, time
 

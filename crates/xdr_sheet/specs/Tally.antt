@@ -1,20 +1,45 @@
 -- A tally of a sheet's first quotes: how many finite answers, infinite answers and refusals they have (REQUIREMENTS 14.5). Definitions only.
-use Prim.Native.Nat.{ℕ, _+_}
-use mathlib.Core.Bool.{cond}
-use Rattle.arithmetic.specs.Basic.{isInfinite}
+use Prim.Native.Nat.{ℕ, zero, suc, _+_}
+use mathlib.Core.Bool.{Bool, true, false, cond}
+use Rattle.arithmetic.specs.Basic.{isFinite, isInfinite}
 use Rattle.explicit_black.specs.Quote.{Reply, answer, refusal}
 use Rattle.xdr_sheet.specs.declared.tally.Tally.{Tally}
 
 abbrev pub emptyTally : Tally
 emptyTally = record { finite = 0; infinite = 0; refusals = 0 }
 
--- the tally with one quote more, by its reply: an answer is infinite where its volatility is, whatever its total
+-- the tally with one finite answer more, one infinite answer, one refusal
+abbrev pub withFinite : Tally → Tally
+withFinite t = record { finite = t .finite + 1; infinite = t .infinite; refusals = t .refusals }
+
+abbrev pub withInfinite : Tally → Tally
+withInfinite t = record { finite = t .finite; infinite = t .infinite + 1; refusals = t .refusals }
+
+abbrev pub withRefusal : Tally → Tally
+withRefusal t = record { finite = t .finite; infinite = t .infinite; refusals = t .refusals + 1 }
+
+-- with one quote more, by its reply: an answer is infinite where its volatility is, whatever its total
 abbrev pub tallyWith : Tally → Reply → Tally
-tallyWith t (answer total volatility count) =
-    cond (isInfinite volatility) (record { finite = t .finite; infinite = t .infinite + 1; refusals = t .refusals })
-    (record { finite = t .finite + 1; infinite = t .infinite; refusals = t .refusals })
-tallyWith t (refusal number count) = record { finite = t .finite; infinite = t .infinite; refusals = t .refusals + 1 }
+tallyWith t (answer total volatility count) = cond (isInfinite volatility) (withInfinite t) (withFinite t)
+tallyWith t (refusal number count) = withRefusal t
 
 -- how many quotes are tallied
 abbrev pub tallyCount : Tally → ℕ
 tallyCount t = t .finite + t .infinite + t .refusals
+
+-- ---- the kinds of a reply, and how many of the numbers below n have a property: Laws/Tally.antt has that a sheet's tally is exact
+abbrev pub isFiniteAnswer : Reply → Bool
+isFiniteAnswer (answer total volatility count) = isFinite volatility
+isFiniteAnswer (refusal number count) = false
+
+abbrev pub isInfiniteAnswer : Reply → Bool
+isInfiniteAnswer (answer total volatility count) = isInfinite volatility
+isInfiniteAnswer (refusal number count) = false
+
+abbrev pub isRefusal : Reply → Bool
+isRefusal (answer total volatility count) = false
+isRefusal (refusal number count) = true
+
+unfoldable pub howMany : (ℕ → Bool) → ℕ → ℕ
+howMany has zero = 0
+howMany has (suc n) = cond (has n) (howMany has n + 1) (howMany has n)

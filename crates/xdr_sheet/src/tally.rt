@@ -3,7 +3,7 @@ ghost use mathlib.Core.Path.{_≡_};
 ghost use Prim.Native.Nat.{_<_};
 ghost use Rattle.explicit_black.specs.Replies.{viewReply};
 ghost use Rattle.xdr_sheet.specs.Sheet.{maxQuotes};
-ghost use Rattle.xdr_sheet.specs.Tally.{emptyTally, tallyWith, tallyCount};
+ghost use Rattle.xdr_sheet.specs.Tally.{emptyTally, withFinite, withInfinite, withRefusal, tallyWith, tallyCount};
 use arithmetic::basic::is_infinite;
 use explicit_black::quote::Reply;
 
@@ -31,6 +31,40 @@ impl Tally {
         self.finite as u64 + self.infinite as u64 + self.refusals as u64
     }
 
+    // The tally with one finite answer more.
+    fn with_finite(self) -> Tally
+        requires { ⌜ tallyCount self < maxQuotes ⌝ }
+        ensures { λ r. ⌜ r ≡ withFinite self ⌝ }
+    {
+        Tally {
+            finite: self.finite + 1,
+            infinite: self.infinite,
+            refusals: self.refusals,
+        }
+    }
+
+    fn with_infinite(self) -> Tally
+        requires { ⌜ tallyCount self < maxQuotes ⌝ }
+        ensures { λ r. ⌜ r ≡ withInfinite self ⌝ }
+    {
+        Tally {
+            finite: self.finite,
+            infinite: self.infinite + 1,
+            refusals: self.refusals,
+        }
+    }
+
+    fn with_refusal(self) -> Tally
+        requires { ⌜ tallyCount self < maxQuotes ⌝ }
+        ensures { λ r. ⌜ r ≡ withRefusal self ⌝ }
+    {
+        Tally {
+            finite: self.finite,
+            infinite: self.infinite,
+            refusals: self.refusals + 1,
+        }
+    }
+
     // The tally with one quote more, by its reply. An answer is infinite where its volatility is, whatever its total.
     pub(crate) fn with(self, reply: Reply) -> Tally
         requires { ⌜ tallyCount self < maxQuotes ⌝ }
@@ -43,27 +77,15 @@ impl Tally {
                 count: _,
             } => {
                 if is_infinite(volatility) {
-                    Tally {
-                        finite: self.finite,
-                        infinite: self.infinite + 1,
-                        refusals: self.refusals,
-                    }
+                    self.with_infinite()
                 } else {
-                    Tally {
-                        finite: self.finite + 1,
-                        infinite: self.infinite,
-                        refusals: self.refusals,
-                    }
+                    self.with_finite()
                 }
             }
             Reply::Refusal {
                 number: _,
                 count: _,
-            } => Tally {
-                finite: self.finite,
-                infinite: self.infinite,
-                refusals: self.refusals + 1,
-            },
+            } => self.with_refusal(),
         }
     }
 }

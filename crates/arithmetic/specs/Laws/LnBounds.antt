@@ -15,7 +15,7 @@ use lib.Ieee.Order.{le-of-values}
 use lib.Ieee.Fits.{add-fits, up-pos, down-pos}
 use lib.Ieee.Scale.{finite}
 use lib.Ieee.Positive.{num, den, den-pos, positive, positive-finite}
-use Rattle.arithmetic.specs.Operations.{_⊕_, _⊖_, _⊗_, _⊘_, bits, plusZero, half, one}
+use Rattle.arithmetic.specs.Operations.{_⊕_, _⊖_, _⊗_, _⊘_, bits, plusZero, half, one, two}
 use Rattle.arithmetic.specs.Basic.{isSignMinus}
 use Rattle.arithmetic.specs.Exp.{ln2Hi, ln2Lo}
 use Rattle.arithmetic.specs.Ln.{G1, G2, G3, G4, G5, G6, G7, inUnits, place, significand, exponent, series, ln, fromLeast, toMost, ln1p}
@@ -137,7 +137,7 @@ series-size f k kl F K L =
 low-product : (k : Float) → Size 68736 k → Size 1074 (k ⊗ ln2Lo)
 low-product k K = size-mul 1074 K (constants .8) (lit≤ tt) (short (lit≤ tt))
 
-positive-tests : (x : Float) → T (positive x) → (eq x plusZero ≡ false) × (lt x plusZero ≡ false)
+pub positive-tests : (x : Float) → T (positive x) → (eq x plusZero ≡ false) × (lt x plusZero ≡ false)
 unfolding eq lt ofBits
 positive-tests nan p = absurd p
 positive-tests (inf s) p = absurd p
@@ -163,6 +163,20 @@ ln-small x p F =
     (size-small 10
     (series-size (significand x ⊖ one) (exponent x) (exponent x ⊗ ln2Lo) (significand-less x) K (size-widen 1394 (low-product (exponent x) K) (lit≤ tt)))
     (lit≤ tt))
+
+-- its last operation is a sum
+series-fits : (f k kl : Float) → T (fits binary64 (series f k kl))
+unfolding series
+series-fits f k kl =
+    let s = f ⊘ (two ⊕ f) in
+    let z = s ⊗ s in
+    let w = z ⊗ z in
+    let g = half ⊗ f ⊗ f in
+    let R = z ⊗ (G1 ⊕ w ⊗ (G3 ⊕ w ⊗ (G5 ⊕ w ⊗ G7))) ⊕ w ⊗ (G2 ⊕ w ⊗ (G4 ⊕ w ⊗ G6)) in
+    add-fits binary64 (s ⊗ (g ⊕ R) ⊕ kl ⊖ g ⊕ f) (k ⊗ ln2Hi)
+
+pub ln-fits : (x : Float) → T (positive x) → T (fits binary64 (ln x))
+ln-fits x p = subst (λ (z : Float). T (fits binary64 z)) (sym (ln-at x p)) (series-fits _ _ _)
 
 one-between : Between 0 0 one
 unfolding ofBits

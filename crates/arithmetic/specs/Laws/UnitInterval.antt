@@ -59,7 +59,7 @@ fractions n d m e x y l D E L p q h f =
     let g : x * 9007199254740992 * (d * e) ≤ 9007199254740991 * y * (d * e) = mul-le-mul-right (d * e) (f less) in
     le-of-mul-le-mul-right (omega arith) L
 
-fraction-below : (p b : Float) → T (fits binary64 p) → T (fits binary64 b) → T (finite p) → T (finite b) → num p * den b < num b * den p
+pub fraction-below : (p b : Float) → T (fits binary64 p) → T (fits binary64 b) → T (finite p) → T (finite b) → num p * den b < num b * den p
     → num p * den b * 9007199254740992 ≤ 9007199254740991 * (num b * den p)
 fraction-below p b F G s t h =
     let o : Representable binary64 p = representable binary64 p F s in
@@ -113,7 +113,7 @@ at-most-inner q h l = record { is-finite = h .is-finite; sign = h .sign; least =
     go : (n d : ℕ) → n * den nextDownOne ≤ num nextDownOne * d → n * 2 ^ 53 + d ≤ d * 2 ^ 53
     go n d h = let g : n * 9007199254740992 ≤ 9007199254740991 * d = rw (next-down-parts .0, next-down-parts .1) at h in omega arith
 
-one-parts : (num one ≡ 1) × (den one ≡ 1) × (isSignMinus one ≡ false) × T (finite one)
+pub one-parts : (num one ≡ 1) × (den one ≡ 1) × (isSignMinus one ≡ false) × T (finite one)
 unfolding ofBits
 one-parts = (refl, refl, refl, tt)
 

@@ -66,13 +66,13 @@ minus-half-abs nan n = absurd (true≢false n)
 minus-half-abs (inf s) n = minus-half (inf false) (inr refl)
 minus-half-abs (fin s m e) n = minus-half (fin false m e) (inl (tt, refl))
 
-b-max-small : (x : Float) → isNan x ≡ false → Small 0 (bMaxOf x)
+pub b-max-small : (x : Float) → isNan x ≡ false → Small 0 (bMaxOf x)
 b-max-small x n = exp-minus (neg half ⊗ abs x) (mul-fits binary64 (neg half) (abs x)) (minus-half-abs x n)
 
 pub b-max-at-most-one : (x : Float) → isNan x ≡ false → T (le (bMaxOf x) one)
 b-max-at-most-one x n = small-le (bMaxOf x) (b-max-small x n)
 
-b-max-nan : bMaxOf nan ≡ nan
+pub b-max-nan : bMaxOf nan ≡ nan
 unfolding abs mul exp neg ofBits
 b-max-nan = refl
 
@@ -94,17 +94,18 @@ quotient-at-most p b F G s t h g =
     let less : lt p b ≡ true = not-le b p t s g in
     quotient-below-one p b F G P (lt-positive p b s (positive-sign p P) t less) less
 
+pub not-over : (b : Float) → T (finite b) → le b (inf false) ≡ false → ⊥
+unfolding le lt
+not-over nan t g = t
+not-over (inf s) t g = t
+not-over (fin s m e) t g = true≢false g
+
 over-finite : (p b : Float) → T (fits binary64 p) → T (fits binary64 b) → T (finite b) → le p plusZero ≡ false → le b p ≡ false
     → NotTaken (p ⊘ b)
 unfolding le lt ofBits
 over-finite nan b F G t h g = subst NotTaken (sym (nan-over b)) nan-not-taken
 over-finite (inf true) b F G t h g = absurd (true≢false h)
-over-finite (inf false) b F G t h g = absurd (go b t g)
-  where
-    go : (b : Float) → T (finite b) → le b (inf false) ≡ false → ⊥
-    go nan t g = t
-    go (inf s) t g = t
-    go (fin s m e) t g = true≢false g
+over-finite (inf false) b F G t h g = absurd (not-over b t g)
 over-finite (fin s m e) b F G t h g = at-most-not-taken (fin s m e ⊘ b) (quotient-at-most (fin s m e) b F G tt t h g)
 
 number-not-taken : (x p : Float) → isNan x ≡ false → T (fits binary64 p) → le p plusZero ≡ false → le (bMaxOf x) p ≡ false

@@ -257,7 +257,7 @@ module _ (side : ℕ) (p f k t : Float) where
       (λ m l h. tt)
 
 -- ---- a refusal on the domain is one of 5 to 9
-domain-passes : (side : ℕ) (p f k t : Float) → Domain side p f k t → firstRefusal side p f k t ≡ 0
+pub domain-passes : (side : ℕ) (p f k t : Float) → Domain side p f k t → firstRefusal side p f k t ≡ 0
 unfolding firstRefusal
 domain-passes side p f k t h =
     rw (

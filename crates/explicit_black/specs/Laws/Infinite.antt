@@ -198,10 +198,6 @@ module _ (side : ℕ) (p f k t : Float) where
       (λ l. unless _ at (fromTimeValue x v .result) (λ e. (z, inr e)) (time-value-bounded x v (div-fits binary64 _ r)))))) tt
 
 -- ---- volatilities
-infinity-is : infinity ≡ inf false
-unfolding ofBits
-infinity-is = refl
-
 infinity-over : (r : Float) → T (positive r) → infinity ⊘ r ≡ infinity
 unfolding div ofBits
 infinity-over nan p = absurd p

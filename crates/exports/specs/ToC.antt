@@ -81,11 +81,11 @@ lineOf oldCount t buffer l =
     cond (fitsInto (l .text) (length buffer)) (handedLine (l .letter) (length (l .text)) (tallyAfter t (l .next)) (overlaid (l .text) buffer))
     (handedLine 0 oldCount t buffer)
 
+-- of a sheet, after the lines of the quotes tallied
+abbrev pub lineToC : ℕ → Tally → List ℕ → List ℕ → LineToC
+lineToC oldCount t buffer sheet = lineOf oldCount t buffer (step sheet t)
+
 -- the text of so many calls that have room, each with the tally that the one before left
 unfoldable pub calls : List ℕ → Tally → ℕ → List ℕ
 calls sheet t zero = []
 calls sheet t (suc k) = step sheet t .text ++ calls sheet (tallyAfter t (step sheet t .next)) k
-
--- of a sheet, after the lines of the quotes tallied
-abbrev pub lineToC : ℕ → Tally → List ℕ → List ℕ → LineToC
-lineToC oldCount t buffer sheet = lineOf oldCount t buffer (step sheet t)

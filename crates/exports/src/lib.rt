@@ -26,6 +26,7 @@ ghost use Rattle.explicit_black.specs.Price.{blackPrice};
 ghost use Rattle.explicit_black.specs.Replies.{viewReply};
 ghost use Rattle.ladder.specs.Ladder.{ladder};
 ghost use Rattle.xdr_sheet.specs.Sheet.{size, sheetReply};
+ghost use Rattle.xdr_sheet.specs.Tally.{tallyOf};
 ghost use Rattle.exports.specs.ToC.{handedReply, replyToC, sheetReplyToC, handedPrice, priceToC, handedLadder, ladderToC};
 ghost use Rattle.exports.specs.ToC.{handedSize, sizeToC, tallyAfter, handedLine, lineToC};
 
@@ -343,13 +344,9 @@ pub extern "C" fn quoter_sheet_line(
     text: &mut [u8],
     count: &mut u64,
 ) -> u32
-    ensures { λ r. ⌜ handedLine r (now (count .exit)) (record {
-      finite = now (finite .exit);
-      infinite = now (infinite .exit);
-      refusals = now (refusals .exit);
-    }) (now (text .exit))
-        ≡ lineToC (now (count .entry)) (record { finite = now (finite .entry); infinite = now (infinite .entry); refusals = now (refusals .entry) })
-        (now (text .entry)) (now (sheet .entry)) ⌝ }
+    ensures { λ r. ⌜ handedLine r (now (count .exit)) (tallyOf (now (finite .exit)) (now (infinite .exit)) (now (refusals .exit))) (now (text .exit))
+        ≡ lineToC (now (count .entry)) (tallyOf (now (finite .entry)) (now (infinite .entry)) (now (refusals .entry))) (now (text .entry))
+        (now (sheet .entry)) ⌝ }
 {
     let tally = Tally {
         finite: *finite,

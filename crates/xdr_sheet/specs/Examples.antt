@@ -8,7 +8,7 @@ use Rattle.arithmetic.specs.Sqrt.{sqrt}
 use Rattle.arithmetic.specs.Operations.{bits, infinity}
 use Rattle.explicit_black.specs.Quote.{answer, volatilityOver, firstRefusal, fromTimeValue, fromPrice, fromQuote, impliedBlackVolatilityInput}
 use Rattle.explicit_black.specs.Price.{priceRefusal, priceOf, blackPrice}
-use Rattle.xdr_sheet.specs.Tally.{emptyTally, tallyWith}
+use Rattle.xdr_sheet.specs.Tally.{tallyOf, emptyTally, tallyWith}
 use Rattle.xdr_sheet.specs.Text.{ascii, priceLine, closing}
 use Rattle.xdr_sheet.specs.Sheet.{text}
 use Rattle.xdr_sheet.specs.PriceRecord.{priceReply}
@@ -63,13 +63,13 @@ unfolding text
 text-of-no-sheet = refl
 
 -- the order in the last line
-pub closing-in-order : closing (record { finite = 3; infinite = 2; refusals = 1 }) ≡ ascii "T 3 2 1\n"
+pub closing-in-order : closing (tallyOf 3 2 1) ≡ ascii "T 3 2 1\n"
 unfolding closing
 closing-in-order = refl
 
 -- an answer is tallied by its volatility: infinite beside a finite total, which no quote is known to get, and finite beside an infinite one
-pub tallied-by-volatility : (tallyWith emptyTally (answer (bits 0x3FF0_0000_0000_0000) infinity 0) ≡ record { finite = 0; infinite = 1; refusals = 0 })
-    × (tallyWith emptyTally (answer infinity (bits 0x3FF0_0000_0000_0000) 0) ≡ record { finite = 1; infinite = 0; refusals = 0 })
+pub tallied-by-volatility : (tallyWith emptyTally (answer (bits 0x3FF0_0000_0000_0000) infinity 0) ≡ tallyOf 0 1 0)
+    × (tallyWith emptyTally (answer infinity (bits 0x3FF0_0000_0000_0000) 0) ≡ tallyOf 1 0 0)
 unfolding isNan ofBits
 tallied-by-volatility = (refl, refl)
 

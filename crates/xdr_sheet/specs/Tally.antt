@@ -5,18 +5,21 @@ use Rattle.arithmetic.specs.Basic.{isFinite, isInfinite}
 use Rattle.explicit_black.specs.Quote.{Reply, answer, refusal}
 use Rattle.xdr_sheet.specs.declared.tally.Tally.{Tally}
 
+abbrev pub tallyOf : ℕ → ℕ → ℕ → Tally
+tallyOf finite infinite refusals = record { finite = finite; infinite = infinite; refusals = refusals }
+
 abbrev pub emptyTally : Tally
-emptyTally = record { finite = 0; infinite = 0; refusals = 0 }
+emptyTally = tallyOf 0 0 0
 
 -- the tally with one finite answer more, one infinite answer, one refusal
 abbrev pub withFinite : Tally → Tally
-withFinite t = record { finite = t .finite + 1; infinite = t .infinite; refusals = t .refusals }
+withFinite t = tallyOf (t .finite + 1) (t .infinite) (t .refusals)
 
 abbrev pub withInfinite : Tally → Tally
-withInfinite t = record { finite = t .finite; infinite = t .infinite + 1; refusals = t .refusals }
+withInfinite t = tallyOf (t .finite) (t .infinite + 1) (t .refusals)
 
 abbrev pub withRefusal : Tally → Tally
-withRefusal t = record { finite = t .finite; infinite = t .infinite; refusals = t .refusals + 1 }
+withRefusal t = tallyOf (t .finite) (t .infinite) (t .refusals + 1)
 
 -- with one quote more, by its reply: an answer is infinite where its volatility is, whatever its total
 abbrev pub tallyWith : Tally → Reply → Tally
@@ -27,7 +30,7 @@ tallyWith t (refusal number count) = withRefusal t
 abbrev pub tallyCount : Tally → ℕ
 tallyCount t = t .finite + t .infinite + t .refusals
 
--- ---- the kinds of a reply, and how many of the numbers below n have a property: Laws/Tally.antt has that a sheet's tally is exact
+-- ---- the kinds of a reply, and how many of the numbers below n have a property: by these a sheet's tally is exact (Laws/Tally.antt)
 abbrev pub isFiniteAnswer : Reply → Bool
 isFiniteAnswer (answer total volatility count) = isFinite volatility
 isFiniteAnswer (refusal number count) = false

@@ -43,12 +43,14 @@ across-least : (n d U a B : ℕ) → 0 < d → n * U ≡ a * d → d ≤ n * B �
 across-least n d U a B D e h =
     let s : U * d ≤ U * (n * B) = mul-le-mul-left U h in
     let t : n * U * B ≡ a * d * B = ap (λ (z : ℕ). z * B) e in
-    (let u : U * d ≤ a * B * d = omega arith in le-of-mul-le-mul-right u D)
+    let u : U * d ≤ a * B * d = omega arith in
+    le-of-mul-le-mul-right u D
 
 across-most : (n d U a B : ℕ) → 0 < d → n * U ≡ a * d → n ≤ B * d → a ≤ B * U
 across-most n d U a B D e h =
     let s : n * U ≤ B * d * U = mul-le-mul-right U h in
-    (let u : a * d ≤ B * U * d = omega arith in le-of-mul-le-mul-right u D)
+    let u : a * d ≤ B * U * d = omega arith in
+    le-of-mul-le-mul-right u D
 
 -- ---- the root of x
 module _ (x : Float) (p : T (positive x)) (F : T (fits binary64 x)) (j : ℕ) where

@@ -1,6 +1,6 @@
--- WHICH ANSWERS ARE INFINITE (REQUIREMENTS 14.5): a total is infinite at a price that is its bound, or whose normalised time value is b_max, and every
--- other total is 2 ^ 539 at most. The volatility of an infinite total is infinite, and at a time of 0, or of 2 ^ -966 and more, that of no other is.
--- Assumes nothing.
+-- WHICH ANSWERS ARE INFINITE (REQUIREMENTS 14.5): a total is infinite only at a price that is its bound, or whose normalised time value is b_max, and
+-- every other total is 2 ^ 539 at most. The volatility of an infinite total is infinite, and at a time of 0, or of 2 ^ -966 and more, that of no other
+-- is. Assumes nothing.
 use mathlib.Core.Path.{_≡_, refl, sym, ap, _∙_, subst}
 use mathlib.Core.Logic.{_⊎_, inl, inr}
 use Prim.Native.Nat.{ℕ, zero, suc, _*_, _^_, _≤_, _<_}
@@ -28,6 +28,7 @@ use Rattle.arithmetic.specs.Laws.Bounds.{le-cross}
 use Rattle.arithmetic.specs.Laws.SqrtBounds.{sqrt-positive}
 use Rattle.arithmetic.specs.Laws.Quotients.{at-least-no-nan}
 use Rattle.arithmetic.specs.Laws.PowerBounds.{Small, small-widen, small-mul, small-div, zero-small, small-of}
+use Rattle.arithmetic.specs.Laws.LnBounds.{positive-tests}
 use Rattle.arithmetic.specs.Laws.RootBounds.{root-between}
 use Rattle.arithmetic.specs.Laws.UnitInterval.{one-parts}
 use Rattle.special_function.specs.Polynomial.{nested}
@@ -35,7 +36,7 @@ use Rattle.special_function.specs.Erfinv.{erfinv}
 use Rattle.special_function.specs.NormalDistribution.{inverseNormCdfForLowProbabilities}
 use Rattle.special_function.specs.Laws.ErfinvBounds.{NanOr, erfinv-number}
 use Rattle.bs_option_price.specs.BsOptionPrice.{negativeAbsLogMoneyness}
-use Rattle.explicit_black.specs.Counted.{Option, some, none, Counted}
+use Rattle.explicit_black.specs.Counted.{Option, some, none, Counted, atOnce}
 use Rattle.explicit_black.specs.Curves.{finitePositive}
 use Rattle.explicit_black.specs.Quantile.{inverseGaussianQuantile}
 use Rattle.explicit_black.specs.Survival.{inverseGaussianQuantileFromSurvival}
@@ -44,12 +45,12 @@ use Rattle.explicit_black.specs.Quote.{fromCallPrice, fromNormalisedPric
 use Rattle.explicit_black.specs.Quote.{normalisedTimeValue, fromPrice, fromQuote, answer, replyOf, volatility, volatilityOver}
 use Rattle.explicit_black.specs.Quote.{impliedBlackVolatilityInput}
 use Rattle.explicit_black.specs.Guards.{survivalThreshold, bMaxOf}
-use Rattle.explicit_black.specs.Infinite.{AtLimit, leastTime}
+use Rattle.explicit_black.specs.Infinite.{AtBound, AtBMax, AtLimit, leastTime}
 use Rattle.explicit_black.specs.Laws.Tests.{from-price-is}
 use Rattle.explicit_black.specs.Laws.Quote.{Domain, passed, domain-passes, time-positive}
 use Rattle.explicit_black.specs.Laws.ZeroPrice.{or-right}
 use Rattle.explicit_black.specs.Laws.Roots.{finitePositive-positive, quantile-fits, from-survival-fits}
-use Rattle.explicit_black.specs.Laws.Guards.{NotTaken, quotient-not-taken, b-max-small, not-over}
+use Rattle.explicit_black.specs.Laws.Guards.{NotTaken, quotient-not-taken, b-max-small, b-max-nan, not-over}
 
 -- ---- an outcome's total is infinity where a condition holds, and else 2 ^ 539 at most
 abbrev pub BoundedUnless : Type 0 → Outcome → Type 0
@@ -320,8 +321,12 @@ at-least-bound p b P B e =
     or-right (lt b p) (eq b p)
     (eq-is b p B P ∙ level-swap (isSignMinus p) (isSignMinus b) (num p * den b) (num b * den p) (sym (eq-is p b P B) ∙ e))
 
+infinity-over-root : {side : ℕ} {p f k : Float} (t : Float) → Domain side p f k t → T (fits binary64 t) → eq t plusZero ≡ false
+    → infinity ⊘ sqrt t ≡ infinity
+infinity-over-root t D F z = infinity-over (sqrt t) (sqrt-positive t (time-positive t (D .time-finite) (D .time-not-below) z) F)
+
 pub at-bound : (side : ℕ) (p f k t : Float) → Domain side p f k t → T (fits binary64 t)
-    → eq t plusZero ≡ false → eq p (priceBound side f k) ≡ true → impliedBlackVolatilityInput side p f k t ≡ answer infinity infinity 0
+    → eq t plusZero ≡ false → AtBound side p f k → impliedBlackVolatilityInput side p f k t ≡ answer infinity infinity 0
 unfolding impliedBlackVolatilityInput fromQuote volatilityOver
 at-bound side p f k t D F z e =
     let b = priceBound side f k in
@@ -333,8 +338,58 @@ at-bound side p f k t D F z e =
       z,
       l,
       e,
-      infinity-over (sqrt t) (sqrt-positive t (time-positive t (D .time-finite) (D .time-not-below) z) F),
+      infinity-over-root t D F z,
     ) (rw z)
+
+-- ---- AND A NORMALISED TIME VALUE THAT IS b_max, of a price below its bound, where it is above 2 ^ -1022
+number-of : (x v : Float) → eq v (bMaxOf x) ≡ true → isNan x ≡ false
+unfolding isNan
+number-of nan v e = absurd (not-nan v (subst (λ (b : Float). eq v b ≡ true) b-max-nan e))
+  where
+    not-nan : (v : Float) → eq v nan ≡ true → ⊥
+    not-nan nan e = unfold eq in false≢true e
+    not-nan (inf s) e = unfold eq in false≢true e
+    not-nan (fin s m d) e = unfold eq in false≢true e
+number-of (inf s) v e = refl
+number-of (fin s m d) v e = refl
+
+equal-finite : (v b : Float) → T (finite b) → eq v b ≡ true → T (finite v)
+unfolding eq
+equal-finite nan b B e = absurd (false≢true e)
+equal-finite (inf s) nan B e = absurd B
+equal-finite (inf s) (inf t) B e = absurd B
+equal-finite (inf s) (fin t m d) B e = absurd (false≢true e)
+equal-finite (fin s m d) b B e = tt
+
+min-positive-parts : (isSignMinus minPositive ≡ false) × T (finite minPositive)
+unfolding ofBits
+min-positive-parts = (refl, tt)
+
+not-at-most-zero : (v : Float) → T (positive v) → le v plusZero ≡ false
+unfolding le
+not-at-most-zero v p = let t = positive-tests v p in rw (t .1, t .0) refl
+
+at-b-max-normalised : (x v : Float) → T (finite v) → le v minPositive ≡ false → eq v (bMaxOf x) ≡ true → fromTimeValue x v ≡ atOnce (total infinity)
+unfolding fromTimeValue fromNormalisedPrice
+at-b-max-normalised x v q l e =
+    let b = bMaxOf x in
+    let (s, f) = min-positive-parts in
+    let p : T (positive v) = lt-positive minPositive v f s q (not-le v minPositive q f l) in
+    rw (l, not-at-most-zero v p, at-least-bound v b q (b-max-small x (number-of x v e) .is-finite) e, e) refl
+
+pub at-b-max : (side : ℕ) (p f k t : Float) → Domain side p f k t → T (fits binary64 t)
+    → eq t plusZero ≡ false → le (priceBound side f k) p ≡ false
+    → le (normalisedTimeValue p (intrinsicValue side f k) (sqrt f ⊗ sqrt k)) minPositive ≡ false → AtBMax side p f k
+    → impliedBlackVolatilityInput side p f k t ≡ answer infinity infinity 0
+unfolding impliedBlackVolatilityInput fromQuote volatilityOver
+at-b-max side p f k t D F z l m e =
+    let d = intrinsicValue side f k in
+    let b = priceBound side f k in
+    let r = sqrt f ⊗ sqrt k in
+    let x = negativeAbsLogMoneyness f k in
+    let v = normalisedTimeValue p d r in
+    let q : T (finite v) = equal-finite v (bMaxOf x) (b-max-small x (number-of x v e) .is-finite) e in
+    rw (domain-passes side p f k t D, from-price-is p d b r x t, z, l, at-b-max-normalised x v q m e, infinity-over-root t D F z) (rw z)
 
 -- ---- A PRICE BELOW ITS BOUND may be answered so too: one unit of the last place below 1.37, which is forward and strike
 pub below-its-bound : impliedBlackVolatilityInput 0 (bits 0x3FF5_EB85_1EB8_51EB) (bits 0x3FF5_EB85_1EB8_51EC) (bits 0x3FF5_EB85_1EB8_51EC) one

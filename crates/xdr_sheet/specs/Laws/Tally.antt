@@ -11,7 +11,7 @@ use Rattle.arithmetic.specs.Laws.Choices.{in-both}
 use Rattle.explicit_black.specs.Quote.{Reply, answer, refusal}
 use Rattle.explicit_black.specs.Laws.Quote.{FiguresAreNumbers, input-numbers}
 use Rattle.xdr_sheet.specs.Xdr.{hyper, double}
-use Rattle.xdr_sheet.specs.Tally.{withFinite, withInfinite, tallyWith, tallyCount, isFiniteAnswer, isInfiniteAnswer, isRefusal, howMany}
+use Rattle.xdr_sheet.specs.Tally.{tallyOf, withFinite, withInfinite, tallyWith, tallyCount, isFiniteAnswer, isInfiniteAnswer, isRefusal, howMany}
 use Rattle.xdr_sheet.specs.Sheet.{timeAt, bytesOf, replyFrom, replyAt, tally}
 use Rattle.xdr_sheet.specs.declared.tally.Tally.{Tally}
 
@@ -35,11 +35,9 @@ tally-counts s zero = refl
 tally-counts s (suc n) = count-with (tally s n) (replyAt s n) ∙ ap suc (tally-counts s n)
 
 -- ---- EACH TALLY: how many of them have a reply of its kind
-with-kind : (t : Tally) (r : Reply) → FiguresAreNumbers r → tallyWith t r ≡ record {
-  finite = cond (isFiniteAnswer r) (t .finite + 1) (t .finite);
-  infinite = cond (isInfiniteAnswer r) (t .infinite + 1) (t .infinite);
-  refusals = cond (isRefusal r) (t .refusals + 1) (t .refusals);
-}
+with-kind : (t : Tally) (r : Reply) → FiguresAreNumbers r
+    → tallyWith t r ≡ tallyOf (cond (isFiniteAnswer r) (t .finite + 1) (t .finite)) (cond (isInfiniteAnswer r) (t .infinite + 1) (t .infinite))
+    (cond (isRefusal r) (t .refusals + 1) (t .refusals))
 unfolding isNan
 with-kind t (answer total nan count) h = absurd (true≢false (h .2))
 with-kind t (answer total (inf s) count) h = refl
@@ -50,13 +48,9 @@ reply-numbers : (s : List ℕ) (at : ℕ) → FiguresAreNumbers (replyFrom s at)
 unfolding replyFrom double
 reply-numbers s at = input-numbers _ _ _ _ _ (ofBits-fits binary64 (hyper s (at + timeAt)))
 
-pub tally-exact : (s : List ℕ) (n : ℕ) → tally s n ≡ record {
-  finite = howMany (λ i. isFiniteAnswer (replyAt s i)) n;
-  infinite = howMany (λ i. isInfiniteAnswer (replyAt s i)) n;
-  refusals = howMany (λ i. isRefusal (replyAt s i)) n;
-}
+pub tally-exact : (s : List ℕ) (n : ℕ)
+    → tally s n ≡ tallyOf (howMany (λ i. isFiniteAnswer (replyAt s i)) n) (howMany (λ i. isInfiniteAnswer (replyAt s i)) n)
+    (howMany (λ i. isRefusal (replyAt s i)) n)
 unfolding tally howMany
 tally-exact s zero = refl
-tally-exact s (suc n) =
-    with-kind (tally s n) (replyAt s n) (reply-numbers s (bytesOf n))
-    ∙ rw (tally-exact s n)
+tally-exact s (suc n) = with-kind (tally s n) (replyAt s n) (reply-numbers s (bytesOf n)) ∙ rw (tally-exact s n)

@@ -109,8 +109,9 @@ uint32_t quoter_sheet_size(const uint8_t *sheet, uint64_t length, uint32_t *quot
 uint32_t quoter_sheet_quote(const uint8_t *sheet, uint64_t length, uint64_t index,
                             double *total, double *volatility, uint64_t *count);
 
-/* The line of a sheet's text that comes after those of so many finite answers, infinite answers and refusals; an answer is infinite where its
-   volatility is. Start the three tallies at 0, hand them to each call unchanged, and stop after 'T', the last line, or 'S', a refused sheet.
+/* The line of a sheet's text (sections 11 and 14.5) that comes after those of so many finite answers, infinite answers and refusals; an answer is
+   infinite where its volatility is. Start the three tallies at 0, hand them to each call unchanged, and stop after 'T', the last line, or 'S', a
+   refused sheet. Of other tallies the sum says which quote's line comes, and the last line has them as they are given.
    Returns the line's letter, 'V' for an answer, 'R' for a refusal, 'T' or 'S': the line, at most 46 bytes with a newline at its end and no zero
    byte, is written to the start of `text`, the rest of which stays as it was, and its number of bytes to `count`. After 'V' and 'R' the line's
    quote has been counted in its tally; after 'T' and 'S' the tallies are as they were.

@@ -1008,21 +1008,21 @@ fn one_below(q: Quote) -> Quote {
     Quote { price: step(q.price, -1), ..q }
 }
 
-/// Infinite answers to prices below their bound: the normalised time value is b_max. The last four are 1,019 and 1,008 units of the last place
-/// below it, the most of 20 million.
+/// Infinite answers to prices below their bound: the normalised time value is b_max. The last four are 1,024 and 1,008 units of the last place
+/// below it, the most that searches found.
 fn infinite_below() -> Vec<Quote> {
     let near = [(0, 161.55, 305.0), (1, 61550.33, 61442.0), (0, 1.72, 1.5), (1, 0.96, 1.07), (0, 1.37, 1.37)];
     let mut list = near.map(|(side, forward, strike)| one_below(at_bound(side, forward, strike, 1.0))).to_vec();
     for time in [1.0, power(-1074)] {
-        list.push(quote(0, 1.8628344004151702e-301, 1.8628344004153814e-301, 5.204728145587283e302, time));
+        list.push(quote(0, 9.33027772204502e-302, 9.330277722046081e-302, 4.492660548857649e302, time));
         list.push(quote(1, 1.8652984766675849e-301, 1.1946529610980787e307, 1.8652984766677938e-301, time));
     }
     list
 }
 
-/// Quotes that tell wrong tallies apart. Infinite: prices at their bound, and some below. Finite: prices one unit below their bound; the quote
-/// with the largest finite total, 81.02, of 28 million; and at time zero prices at a bound that is the intrinsic value too, 1 - 2^-1074 being
-/// rounded to 1. No volatility is larger than at time 2^-1074.
+/// Quotes that a wrong tally would count otherwise. Infinite: prices at their bound, and some below. Finite: prices one unit below their bound;
+/// the largest finite total that searches found, 81.10; a normalised time value that is b_max, but not above 2^-1022; and at time zero prices
+/// at a bound that is the intrinsic value too, 1 - 2^-1074 being rounded to 1. Of a total, the volatility is largest at time 2^-1074.
 fn limits() -> Vec<Quote> {
     let tiny = power(-1074);
     let mut list = Vec::new();
@@ -1032,8 +1032,9 @@ fn limits() -> Vec<Quote> {
         list.extend([1.0, tiny, f64::MAX].map(at).map(one_below));
     }
     list.extend(infinite_below());
-    let largest = |time: f64| quote(0, 2.5142006341763066e177, 2.5142006341763237e177, 9.700938085135061e246, time);
+    let largest = |time: f64| quote(0, 2.66496037618741e-75, 2.6649603761874105e-75, 1.0291550148874028e-5, time);
     list.extend([1.0, tiny].map(largest));
+    list.push(quote(0, 2.524044225599714e-308, 2.524044225599785e-308, 1.1281144856750468e308, 1.0));
     for time in [0.0, -0.0, 1.0] {
         list.extend([at_bound(0, 1.0, tiny, time), at_bound(1, tiny, 1.0, time)]);
     }

@@ -130,7 +130,7 @@ fn any_bits(rng: &mut Rng) -> Quote {
     Quote { side: rng.below(4) as u32, price: rng.any(), forward: rng.any(), strike: rng.any(), time: rng.any() }
 }
 
-/// A sheet of another length, or mostly of another count.
+/// Gives a sheet another length, or another count, now and then the same.
 fn spoil(rng: &mut Rng, sheet: &mut Vec<u8>) {
     let length = sheet.len();
     match rng.below(4) {
@@ -145,7 +145,7 @@ fn spoil(rng: &mut Rng, sheet: &mut Vec<u8>) {
     }
 }
 
-/// Any tallies; or such that their sum, or its rest by 2^32, is the number of a quote or next after the last.
+/// Any tallies; or such whose sum, or sum modulo 2^32, is from 0 to one more than the number of quotes.
 fn any_tallies(rng: &mut Rng, quotes: u64) -> Tally {
     let before = rng.below(quotes + 2) as u32;
     let [a, b, c] = [(); 3].map(|_| rng.bits() as u32);

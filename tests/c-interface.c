@@ -512,11 +512,12 @@ static void line(const char *what, const uint8_t *sheet, uint64_t length, struct
     uint32_t returned = next_line(sheet, length, &found, text, bytes - 1, &count);
     check(what, returned == 0 && count == 7 && same(found, given) && memcmp(text, before, sizeof text) == 0);
     memcpy(before, right, bytes);
-    for (uint64_t room = bytes; room <= sizeof text; room += sizeof text - bytes) {
+    const uint64_t rooms[2] = {bytes, sizeof text};
+    for (int i = 0; i < 2; i++) {
         memset(text, '#', sizeof text);
         found = given;
         count = 7;
-        returned = next_line(sheet, length, &found, text, room, &count);
+        returned = next_line(sheet, length, &found, text, rooms[i], &count);
         check(what, returned == (uint32_t)letter && count == bytes && same(found, after) && memcmp(text, before, sizeof text) == 0);
     }
 }
@@ -546,7 +547,7 @@ static void known_lines(void)
     check("no room and no pointer", next_line(sample, sizeof sample, &found, NULL, 0, &count) == 0 && count == 7 && same(found, none));
 }
 
-/* Tallies that no lines leave. Their sum alone says which line comes, and is not taken modulo 2^32. */
+/* Tallies that the sample's lines do not leave. Their sum alone says which line comes, and is not taken modulo 2^32. */
 static void known_tallies(void)
 {
     const struct tally most = {UINT32_MAX, UINT32_MAX, UINT32_MAX};
@@ -569,8 +570,8 @@ static void known_tallies(void)
     last("sum 2^33", sample, sizeof sample, (struct tally){UINT32_MAX, 2, UINT32_MAX}, 'T', "T 4294967295 2 4294967295\n");
 }
 
-/* Prices at their bound, beside other answers and refusals. At time zero such a price is the intrinsic value too, and finite, where forward and strike
-   are so far apart that their difference rounds to one of them. */
+/* Prices at their bound, beside other answers and refusals. At time zero such a price is the intrinsic value too, and its answer finite, where
+   forward and strike are so far apart that their difference rounds to one of them. */
 static const struct listed LIMITS[] = {
     {0, 100.0, 100.0, 120.0, 0x1p-1074, 0, INFINITY}, {0, 0.0, 100.0, 120.0, 0x1p-1074, 0, 0.0}, {1, 120.0, 100.0, 120.0, 1.0, 0, INFINITY},
     {0, 120.0, 120.0, 100.0, DBL_MAX, 0, INFINITY}, {1, 100.0, 120.0, 100.0, 1e-300, 0, INFINITY}, {1, 0.0, 120.0, 100.0, DBL_MAX, 0, 0.0},
@@ -632,7 +633,8 @@ static void known_limits(void)
     counted("call far below its bound, b_max", 0, 1.8628344004151702e-301, 1.8628344004153814e-301, 5.204728145587283e302, DBL_MAX, infinite);
     counted("call one unit below its bound", 0, 100.0 - 0x1p-46, 100.0, 120.0, 0x1p-1074, finite);
     counted("put one unit below its bound", 1, 100.0 - 0x1p-46, 120.0, 100.0, 0x1p-1074, finite);
-    counted("the largest total found", 0, 2.5142006341763066e177, 2.5142006341763237e177, 9.700938085135061e246, 0x1p-1074, finite);
+    counted("the largest total found", 0, 2.66496037618741e-75, 2.6649603761874105e-75, 1.0291550148874028e-5, 0x1p-1074, finite);
+    counted("b_max, but not above 2^-1022", 0, 2.524044225599714e-308, 2.524044225599785e-308, 1.1281144856750468e308, 1.0, finite);
 }
 
 static void known_walks(void)

@@ -154,7 +154,7 @@ class Entry:
             if result != "-":
                 print(f"{name.ljust(width)}  {result}")
 
-    def table(self, records, replies, tally):
+    def table(self, records, replies, summary):
         rows = [["", *self.names, *self.results]]
         notes = [""]
         for i, (fields, (refusal, results)) in enumerate(zip(records, replies), 1):
@@ -164,7 +164,7 @@ class Entry:
         widths = [max(len(row[k]) for row in rows) for k in range(len(rows[0]))]
         for row, note in zip(rows, notes):
             print("  ".join([field.rjust(width) for field, width in zip(row, widths)] + [note]).rstrip())
-        print(f"{len(records)} {self.record}s: {tally}")
+        print(f"{len(records)} {self.record}s: {summary}")
 
     def words(self, usage):
         """The command's words, where they do not ask for the usage."""

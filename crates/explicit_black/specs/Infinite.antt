@@ -24,6 +24,6 @@ AtBMax side price forward strike =
 abbrev pub AtLimit : ℕ → Float → Float → Float → Float → Type 0
 AtLimit side price forward strike time = (eq time plusZero ≡ false) × (AtBound side price forward strike ⊎ AtBMax side price forward strike)
 
--- 2 ^ -966
-abbrev pub leastTime : Float
-leastTime = bits 0x0390_0000_0000_0000
+-- 2 ^ -966: from this time on, and at time zero, the volatility is infinite exactly where the total is
+abbrev pub leastAlikeTime : Float
+leastAlikeTime = bits 0x0390_0000_0000_0000

@@ -1,16 +1,17 @@
--- Calls of `quoter_sheet_line` from three tallies of 0, each with what the one before left, print a sheet's text. Assumes nothing.
+-- Calls of `quoter_sheet_line` from three tallies of 0, each with what the one before left, print a sheet's text: one more than it has quotes, or one
+-- where it is refused. Assumes nothing.
 use mathlib.Core.Path.{_≡_, refl, sym, ap, _∙_}
 use Prim.Native.Nat.{ℕ, zero, suc, _+_, _<_}
 use native.Mathlib.Omega.{arith}
 use native.Mathlib.Numerals.{add-one}
 use mathlib.Core.List.{List, [], _++_, append-assoc, append-nil}
 use Rattle.xdr_sheet.specs.Tally.{emptyTally, tallyWith, tallyCount}
-use Rattle.xdr_sheet.specs.Text.{line, closing}
-use Rattle.xdr_sheet.specs.Sheet.{quotes, size, replyAt, replied, noQuote, sheetReply, lines, tally, text}
+use Rattle.xdr_sheet.specs.Text.{line, closing, refusedSheet}
+use Rattle.xdr_sheet.specs.Sheet.{quotes, refused, size, replyAt, replied, noQuote, sheetReply, lines, tally, text}
 use Rattle.xdr_sheet.specs.Printing.{Step, quoteStep, lastStep, step}
 use Rattle.xdr_sheet.specs.Laws.Sheet.{quote-there, quote-past}
 use Rattle.xdr_sheet.specs.Laws.Tally.{tally-counts}
-use Rattle.xdr_sheet.specs.Laws.Printing.{step-quote, step-last}
+use Rattle.xdr_sheet.specs.Laws.Printing.{step-quote, step-last, step-refused}
 use Rattle.exports.specs.ToC.{tallyAfter, calls}
 
 module _ (s : List ℕ) (n : ℕ) (e : quotes n ≡ size s) where
@@ -56,3 +57,8 @@ module _ (s : List ℕ) (n : ℕ) (e : quotes n ≡ size s) where
   pub calls-print : calls s emptyTally (suc n) ≡ text s
   unfolding text lines tally
   calls-print = from-line n 0 (omega arith) ∙ rw (← e)
+
+pub refused-prints : (s : List ℕ) (number count : ℕ) → refused number count ≡ size s → calls s emptyTally 1 ≡ text s
+unfolding calls text
+refused-prints s number count e =
+    ap (λ (l : Step). l .text ++ []) (sym (step-refused s emptyTally number count e)) ∙ append-nil (refusedSheet number) ∙ rw (← e)

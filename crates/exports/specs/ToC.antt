@@ -70,7 +70,7 @@ sizeToC old (refused number count) = handedSize number old
 pub data LineToC : Type 0 where
   handedLine : ℕ → ℕ → Tally → List ℕ → LineToC
 
--- the tally after a line: with the line's quote, or as before after the last line
+-- the tally after a line: with the line's quote, or as before after the last line and that of a refused sheet
 abbrev pub tallyAfter : Tally → Progress → Tally
 tallyAfter t (Tallied next) = next
 tallyAfter t Over = t

@@ -323,7 +323,7 @@ pub extern "C" fn quoter_sheet_quote(
     }
 }
 
-// The tally after a line: with the line's quote, or as before after the last line.
+// The tally after a line: with the line's quote, or as before after the last line and that of a refused sheet.
 fn tally_after(tally: Tally, progress: Progress) -> Tally
     ensures { λ r. ⌜ r ≡ tallyAfter tally progress ⌝ }
 {
@@ -334,7 +334,8 @@ fn tally_after(tally: Tally, progress: Progress) -> Tally
 }
 
 // The line that comes after those of so many finite answers, infinite answers and refusals, put at the start of `text`. Its letter, V, R, T
-// or S in ASCII, is returned, its length written to `count`, and the tally is that after it; or 0 is returned where `text` has no room for it.
+// or S in ASCII, is returned, its length is written to `count`, and the tallies after it are written; or 0 is returned, and nothing is
+// written, where `text` has no room for it.
 #[no_mangle]
 pub extern "C" fn quoter_sheet_line(
     sheet: &[u8],

@@ -11,7 +11,7 @@ tallyOf finite infinite refusals = record { finite = finite; infinite = infinite
 abbrev pub emptyTally : Tally
 emptyTally = tallyOf 0 0 0
 
--- the tally with one finite answer more, one infinite answer, one refusal
+-- the tally with one finite answer more; with one infinite answer more; with one refusal more
 abbrev pub withFinite : Tally → Tally
 withFinite t = tallyOf (t .finite + 1) (t .infinite) (t .refusals)
 

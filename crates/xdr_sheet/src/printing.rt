@@ -21,7 +21,7 @@ use crate::text::refused_line;
 use crate::text::reply_line;
 use explicit_black::quote::Reply;
 
-// What is printed: the lines of so many finite answers, infinite answers and refusals, or also the last line.
+// How far the text is printed: the lines of the quotes tallied, or all of it.
 pub enum Progress {
     Tallied(Tally),
     Over,

@@ -1,4 +1,5 @@
--- How large and how small a root is: below 2 ^ (j + 1) where x is at most 4 ^ j, and above 2 ^ -(j + 1) where x is at least 4 ^ -j. Assumes nothing.
+-- How large and how small a root is: at most 2 ^ (j + 1) where x is at most 4 ^ j, and at least 2 ^ -(j + 1) where x is at least 4 ^ -j.
+-- Assumes nothing.
 use mathlib.Core.Path.{_≡_, sym, ap, _∙_, subst}
 use mathlib.Core.Logic.{inl, inr}
 use Prim.Native.Nat.{ℕ, suc, _+_, _-_, _*_, _^_, _≤_, _<_}
@@ -23,7 +24,7 @@ root-le x y h = elim (lt-or-le y x) [
   | inr g ↦ g
 ]
 
--- q times K is a root of a to the nearest: that of U * U / (B * B) or more, and that of U * U * B * B or less
+-- q * K is the nearest root of a: bounds of a by squares bound it, with a factor of 2 for the rounding
 at-least : (U B a q K : ℕ) → 1 ≤ q → U * U ≤ a * (B * B) → 4 * a < (2 * q + 1) * (2 * q + 1) * (K * K) → U ≤ q * K * (2 * B)
 at-least U B a q K p h g =
     let t : 2 * q + 1 ≤ 4 * q = omega arith in

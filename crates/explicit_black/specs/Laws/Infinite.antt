@@ -45,14 +45,14 @@ use Rattle.explicit_black.specs.Quote.{fromCallPrice, fromNormalisedPric
 use Rattle.explicit_black.specs.Quote.{normalisedTimeValue, fromPrice, fromQuote, answer, replyOf, volatility, volatilityOver}
 use Rattle.explicit_black.specs.Quote.{impliedBlackVolatilityInput}
 use Rattle.explicit_black.specs.Guards.{survivalThreshold, bMaxOf}
-use Rattle.explicit_black.specs.Infinite.{AtBound, AtBMax, AtLimit, leastTime}
+use Rattle.explicit_black.specs.Infinite.{AtBound, AtBMax, AtLimit, leastAlikeTime}
 use Rattle.explicit_black.specs.Laws.Tests.{from-price-is}
 use Rattle.explicit_black.specs.Laws.Quote.{Domain, passed, domain-passes, time-positive}
 use Rattle.explicit_black.specs.Laws.ZeroPrice.{or-right}
 use Rattle.explicit_black.specs.Laws.Roots.{finitePositive-positive, quantile-fits, from-survival-fits}
 use Rattle.explicit_black.specs.Laws.Guards.{NotTaken, quotient-not-taken, b-max-small, b-max-nan, not-over}
 
--- ---- an outcome's total is infinity where a condition holds, and else 2 ^ 539 at most
+-- ---- an outcome's total is 2 ^ 539 at most, unless a condition holds and it is infinity
 abbrev pub BoundedUnless : Type 0 → Outcome → Type 0
 BoundedUnless at (total v) = (at × (v ≡ infinity)) ⊎ Small 539 v
 BoundedUnless at (refused m) = Unit
@@ -206,16 +206,16 @@ infinity-over (inf s) p = absurd p
 infinity-over (fin true m e) p = absurd p
 infinity-over (fin false m e) p = refl
 
-least-time-parts : (isSignMinus leastTime ≡ false) × T (finite leastTime) × (0 < num leastTime) × (num leastTime * 2 ^ 966 ≡ den leastTime)
+least-alike-time-parts : (isSignMinus leastAlikeTime ≡ false) × T (finite leastAlikeTime) × (0 < num leastAlikeTime) × (num leastAlikeTime * 2 ^ 966 ≡ den leastAlikeTime)
 unfolding ofBits
-least-time-parts = (refl, tt, lit≤ tt, refl)
+least-alike-time-parts = (refl, tt, lit≤ tt, refl)
 
-small-over : (t v : Float) → T (positive t) → T (fits binary64 t) → T (le leastTime t) → Small 539 v → Small 1023 (v ⊘ sqrt t)
+small-over : (t v : Float) → T (positive t) → T (fits binary64 t) → T (le leastAlikeTime t) → Small 539 v → Small 1023 (v ⊘ sqrt t)
 small-over t v P F l h =
-    let (s, q, a, e) = least-time-parts in
+    let (s, q, a, e) = least-alike-time-parts in
     small-div h
     (root-between t P F 483
-    (go (num leastTime) (num t) (den t) (2 ^ 966) (den leastTime) a e (le-cross leastTime t q (positive-finite t P) s (positive-sign t P) l)))
+    (go (num leastAlikeTime) (num t) (den t) (2 ^ 966) (den leastAlikeTime) a e (le-cross leastAlikeTime t q (positive-finite t P) s (positive-sign t P) l)))
     (lit≤ tt)
   where
     go : (a n d u b : ℕ) → 0 < a → a * u ≡ b → a * d ≤ n * b → d ≤ n * u
@@ -261,14 +261,14 @@ module _ (side : ℕ) (p f k t v w : Float) (count : ℕ) (e : impliedBlackVolat
   infinite-over a i F =
       from .quotient ∙ rw (i, a .0) (infinity-over (sqrt t) (sqrt-positive t (time-above (a .0)) F))
 
-  finite-over : (eq t plusZero ≡ true) ⊎ T (le leastTime t) → Small 539 v → T (fits binary64 t) → T (finite w)
+  finite-over : (eq t plusZero ≡ true) ⊎ T (le leastAlikeTime t) → Small 539 v → T (fits binary64 t) → T (finite w)
   unfolding volatilityOver
   finite-over c h F =
       subst (λ (z : Float). T (finite z)) (sym (from .quotient))
       (by-test (λ (z : Float). T (finite z)) (eq t plusZero) (λ z. zero-small 0 .is-finite)
       (λ z. small-over t v (time-above z) F (late c z) h .is-finite))
     where
-      late : (eq t plusZero ≡ true) ⊎ T (le leastTime t) → eq t plusZero ≡ false → T (le leastTime t)
+      late : (eq t plusZero ≡ true) ⊎ T (le leastAlikeTime t) → eq t plusZero ≡ false → T (le leastAlikeTime t)
       late (inl a) z = absurd (true≢false (sym a ∙ z))
       late (inr l) z = l
 
@@ -297,7 +297,7 @@ module _ (side : ℕ) (p f k t v w : Float) (count : ℕ) (F : T (fits binary64 
   ]
 
   -- the volatility is infinite where the total is, at time 0 and from 2 ^ -966 on
-  pub infinite-alike : (eq t plusZero ≡ true) ⊎ T (le leastTime t) → isInfinite w ≡ isInfinite v
+  pub infinite-alike : (eq t plusZero ≡ true) ⊎ T (le leastAlikeTime t) → isInfinite w ≡ isInfinite v
   infinite-alike c = elim (bounded side p f k t v w count e) [
     | inl a ↦ ap isInfinite (infinite-over side p f k t v w count e (a .0) (a .1) F ∙ sym (a .1))
     | inr s ↦ finite-not w (finite-over side p f k t v w count e c s F) ∙ sym (finite-not v (s .is-finite))

@@ -81,7 +81,7 @@ at-root r R =
     (in-both (Small 78) (lt r _) (branch r R _ _ _ _ tt refl tt refl)
     (in-both (Small 78) (lt r _) (branch r R _ _ _ _ tt refl tt refl) (branch r R _ _ _ _ tt refl tt refl))))
 
--- -ln p is above 0; a zero, or below 0, which has no root, it is not, but that is not needed
+-- w is -ln p. It is above 0, but that is not needed: for a zero the value is computed, and below 0 the root is NaN
 at-logarithm : (w : Float) → Small 10 w → T (fits binary64 w) → NanOr 78 (atRoot (sqrt w))
 at-logarithm nan h F = absurd (h .is-finite)
 at-logarithm (inf s) h F = absurd (h .is-finite)

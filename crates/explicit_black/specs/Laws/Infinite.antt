@@ -206,7 +206,8 @@ infinity-over (inf s) p = absurd p
 infinity-over (fin true m e) p = absurd p
 infinity-over (fin false m e) p = refl
 
-least-alike-time-parts : (isSignMinus leastAlikeTime ≡ false) × T (finite leastAlikeTime) × (0 < num leastAlikeTime) × (num leastAlikeTime * 2 ^ 966 ≡ den leastAlikeTime)
+least-alike-time-parts : (isSignMinus leastAlikeTime ≡ false) × T (finite leastAlikeTime) × (0 < num leastAlikeTime)
+    × (num leastAlikeTime * 2 ^ 966 ≡ den leastAlikeTime)
 unfolding ofBits
 least-alike-time-parts = (refl, tt, lit≤ tt, refl)
 

@@ -110,12 +110,12 @@ uint32_t quoter_sheet_quote(const uint8_t *sheet, uint64_t length, uint64_t inde
                             double *total, double *volatility, uint64_t *count);
 
 /* The line of a sheet's text (sections 11 and 14.5) that comes after those of so many finite answers, infinite answers and refusals; an answer is
-   infinite where its volatility is. Start the three tallies at 0, hand them to each call unchanged, and stop after 'T', the last line, or 'S', a
-   refused sheet. Of other tallies the sum says which quote's line comes, and the last line has them as they are given.
+   infinite where its volatility is. Start the three numbers at 0, hand each call what the one before left, and stop after 'T', the last line, or
+   'S', a refused sheet. Of other numbers the sum says which quote's line comes, and the last line has them as they are given.
    Returns the line's letter, 'V' for an answer, 'R' for a refusal, 'T' or 'S': the line, at most 46 bytes with a newline at its end and no zero
    byte, is written to the start of `text`, the rest of which stays as it was, and its number of bytes to `count`. After 'V' and 'R' the line's
-   quote has been counted in its tally; after 'T' and 'S' the tallies are as they were.
-   Returns 0 where `room` is less than that: nothing is written, and the tallies too are as they were. */
+   quote has been counted in its number; after 'T' and 'S' the three are as they were.
+   Returns 0 where `room` is less than the line's number of bytes: nothing is written, and the three too are as they were. */
 uint32_t quoter_sheet_line(const uint8_t *sheet, uint64_t length, uint32_t *finite, uint32_t *infinite, uint32_t *refusals,
                            uint8_t *text, uint64_t room, uint64_t *count);
 

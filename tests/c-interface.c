@@ -624,7 +624,8 @@ static void counted(const char *what, uint32_t side, double price, double forwar
     check(what, letter == 'V' && same(found, right));
 }
 
-/* A price below its bound is infinite where its normalised time value is b_max and above 2^-1022. At time 2^-1074 a volatility is 2^537 times its total. */
+/* The answer of a price below its bound is infinite where its normalised time value is b_max and above 2^-1022. At time 2^-1074 a volatility is
+   2^537 times its total. */
 static void known_limits(void)
 {
     const struct tally finite = {1, 0, 0}, infinite = {0, 1, 0};

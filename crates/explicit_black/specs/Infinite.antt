@@ -1,4 +1,4 @@
--- Which quotes have an infinite total, and from which time on the total says whether the volatility is infinite (REQUIREMENTS 14.5). Definitions only.
+-- Where a total can be infinite, and from which time on it says whether the volatility is infinite (REQUIREMENTS 14.5). Definitions only.
 use mathlib.Core.Path.{_≡_}
 use mathlib.Core.Logic.{_⊎_}
 use mathlib.Core.Bool.{true, false}
@@ -21,9 +21,9 @@ AtBMax side price forward strike =
     eq timeValue (bMaxOf (negativeAbsLogMoneyness forward strike)) ≡ true
 
 -- one of the two, at a time other than zero
-abbrev pub AtLimit : ℕ → Float → Float → Float → Float → Type 0
-AtLimit side price forward strike time = (eq time plusZero ≡ false) × (AtBound side price forward strike ⊎ AtBMax side price forward strike)
+abbrev pub AtBoundOrBMax : ℕ → Float → Float → Float → Float → Type 0
+AtBoundOrBMax side price forward strike time = (eq time plusZero ≡ false) × (AtBound side price forward strike ⊎ AtBMax side price forward strike)
 
--- 2 ^ -966: from this time on, and at time zero, the volatility is infinite exactly where the total is
-abbrev pub leastAlikeTime : Float
-leastAlikeTime = bits 0x0390_0000_0000_0000
+-- 2 ^ -966: at this time and later ones, and at time zero, the volatility is infinite exactly where the total is
+abbrev pub alikeFrom : Float
+alikeFrom = bits 0x0390_0000_0000_0000

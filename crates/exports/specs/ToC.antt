@@ -1,9 +1,11 @@
 -- What C is handed by a call: the number that is returned, and what then stands at the places that the caller gave. Definitions only.
 use Prim.Native.Nat.{ℕ, zero, suc}
-use mathlib.Core.Bool.{cond}
+use Prim.Native.Char.{code}
+use mathlib.Core.Bool.{Bool, _||_, cond}
 use mathlib.Core.List.{List, [], _++_}
+use lib.Dec.{eqb}
 use lib.Ieee.{Float}
-use lib.ListN.{length}
+use lib.ListN.{length, take}
 use Rattle.explicit_black.specs.Quote.{Reply, answer, refusal}
 use Rattle.explicit_black.specs.Price.{PriceReply, price, refusal as refusalOfPrice}
 use Rattle.ladder.specs.Ladder.{LadderReply, solved, refused as refusedLadder, Ladder}
@@ -85,7 +87,18 @@ lineOf oldCount t buffer l =
 abbrev pub lineToC : ℕ → Tally → List ℕ → List ℕ → LineToC
 lineToC oldCount t buffer sheet = lineOf oldCount t buffer (step sheet t)
 
--- the text of so many calls that have room, each with the tally that the one before left
-unfoldable pub calls : List ℕ → Tally → ℕ → List ℕ
-calls sheet t zero = []
-calls sheet t (suc k) = step sheet t .text ++ calls sheet (tallyAfter t (step sheet t .next)) k
+-- ---- a caller's loop: a call that is given the count, tally and buffer that the one before left
+abbrev pub nextCall : List ℕ → LineToC → LineToC
+nextCall sheet (handedLine letter count t buffer) = lineToC count t buffer sheet
+
+-- the bytes that a call counted, and whether they are the line of a quote: V and R say so
+abbrev pub counted : LineToC → List ℕ
+counted (handedLine letter count t buffer) = take count buffer
+
+abbrev pub ofQuote : LineToC → Bool
+ofQuote (handedLine letter count t buffer) = eqb letter (code "V") || eqb letter (code "R")
+
+-- what is printed by a loop that prints the bytes counted and goes on after the line of a quote, in k calls at most
+unfoldable pub calls : List ℕ → LineToC → ℕ → List ℕ
+calls sheet c zero = []
+calls sheet c (suc k) = counted (nextCall sheet c) ++ cond (ofQuote (nextCall sheet c)) (calls sheet (nextCall sheet c) k) []

@@ -18,7 +18,7 @@ abbrev pub ascii : String → List ℕ
 ascii none = []
 ascii (c before s) = code c ∷ ascii s
 
--- the most digits of a u64 in decimal, those of a pattern, and room for the longest line
+-- the most digits of a u64 in decimal, those of a pattern, room for any line, and the most bytes of a line of a sheet
 abbrev pub decimalDigits : ℕ
 decimalDigits = 20
 
@@ -27,6 +27,9 @@ hexadecimalDigits = 16
 
 abbrev pub lineBytes : ℕ
 lineBytes = 80
+
+abbrev pub sheetLineBytes : ℕ
+sheetLineBytes = 46
 
 -- how many decimal digits n has, at most k + 1: one for 0
 unfoldable pub places : ℕ → ℕ → ℕ

@@ -45,7 +45,7 @@ use Rattle.explicit_black.specs.Quote.{fromCallPrice, fromNormalisedPric
 use Rattle.explicit_black.specs.Quote.{normalisedTimeValue, fromPrice, fromQuote, answer, replyOf, volatility, volatilityOver}
 use Rattle.explicit_black.specs.Quote.{impliedBlackVolatilityInput}
 use Rattle.explicit_black.specs.Guards.{survivalThreshold, bMaxOf}
-use Rattle.explicit_black.specs.Infinite.{AtBound, AtBMax, AtLimit, leastAlikeTime}
+use Rattle.explicit_black.specs.Infinite.{AtBound, AtBMax, AtBoundOrBMax, alikeFrom}
 use Rattle.explicit_black.specs.Laws.Tests.{from-price-is}
 use Rattle.explicit_black.specs.Laws.Quote.{Domain, passed, domain-passes, time-positive}
 use Rattle.explicit_black.specs.Laws.ZeroPrice.{or-right}
@@ -182,7 +182,7 @@ unless a b (total v) f (inr h) = inr h
 -- ---- a quote
 module _ (side : ℕ) (p f k t : Float) where
   abbrev at : Type 0
-  at = AtLimit side p f k t
+  at = AtBoundOrBMax side p f k t
 
   quote-bounded : BoundedUnless at (fromQuote side p f k t .result)
   unfolding fromQuote
@@ -206,17 +206,17 @@ infinity-over (inf s) p = absurd p
 infinity-over (fin true m e) p = absurd p
 infinity-over (fin false m e) p = refl
 
-least-alike-time-parts : (isSignMinus leastAlikeTime ≡ false) × T (finite leastAlikeTime) × (0 < num leastAlikeTime)
-    × (num leastAlikeTime * 2 ^ 966 ≡ den leastAlikeTime)
+alike-from-parts : (isSignMinus alikeFrom ≡ false) × T (finite alikeFrom) × (0 < num alikeFrom)
+    × (num alikeFrom * 2 ^ 966 ≡ den alikeFrom)
 unfolding ofBits
-least-alike-time-parts = (refl, tt, lit≤ tt, refl)
+alike-from-parts = (refl, tt, lit≤ tt, refl)
 
-small-over : (t v : Float) → T (positive t) → T (fits binary64 t) → T (le leastAlikeTime t) → Small 539 v → Small 1023 (v ⊘ sqrt t)
+small-over : (t v : Float) → T (positive t) → T (fits binary64 t) → T (le alikeFrom t) → Small 539 v → Small 1023 (v ⊘ sqrt t)
 small-over t v P F l h =
-    let (s, q, a, e) = least-alike-time-parts in
+    let (s, q, a, e) = alike-from-parts in
     small-div h
     (root-between t P F 483
-    (go (num leastAlikeTime) (num t) (den t) (2 ^ 966) (den leastAlikeTime) a e (le-cross leastAlikeTime t q (positive-finite t P) s (positive-sign t P) l)))
+    (go (num alikeFrom) (num t) (den t) (2 ^ 966) (den alikeFrom) a e (le-cross alikeFrom t q (positive-finite t P) s (positive-sign t P) l)))
     (lit≤ tt)
   where
     go : (a n d u b : ℕ) → 0 < a → a * u ≡ b → a * d ≤ n * b → d ≤ n * u
@@ -243,8 +243,8 @@ module _ (side : ℕ) (p f k t v w : Float) (count : ℕ) (e : impliedBlackVolat
           record { outcome = q ∙ ap total i; quotient = sym j ∙ ap (volatility t) i }
       go (refused m) q h = never (cc)
 
-  bounded : BoundedUnless (AtLimit side p f k t) (total v)
-  bounded = subst (BoundedUnless (AtLimit side p f k t)) (from .outcome) (quote-bounded side p f k t)
+  bounded : BoundedUnless (AtBoundOrBMax side p f k t) (total v)
+  bounded = subst (BoundedUnless (AtBoundOrBMax side p f k t)) (from .outcome) (quote-bounded side p f k t)
 
   first-passes : firstRefusal side p f k t ≡ 0
   unfolding fromQuote
@@ -257,19 +257,19 @@ module _ (side : ℕ) (p f k t v w : Float) (count : ℕ) (e : impliedBlackVolat
   time-above : eq t plusZero ≡ false → T (positive t)
   time-above z = let q = passed side p f k t first-passes in time-positive t (q .time-finite) (q .time-not-below) z
 
-  infinite-over : AtLimit side p f k t → v ≡ infinity → T (fits binary64 t) → w ≡ infinity
+  infinite-over : AtBoundOrBMax side p f k t → v ≡ infinity → T (fits binary64 t) → w ≡ infinity
   unfolding volatilityOver
   infinite-over a i F =
       from .quotient ∙ rw (i, a .0) (infinity-over (sqrt t) (sqrt-positive t (time-above (a .0)) F))
 
-  finite-over : (eq t plusZero ≡ true) ⊎ T (le leastAlikeTime t) → Small 539 v → T (fits binary64 t) → T (finite w)
+  finite-over : (eq t plusZero ≡ true) ⊎ T (le alikeFrom t) → Small 539 v → T (fits binary64 t) → T (finite w)
   unfolding volatilityOver
   finite-over c h F =
       subst (λ (z : Float). T (finite z)) (sym (from .quotient))
       (by-test (λ (z : Float). T (finite z)) (eq t plusZero) (λ z. zero-small 0 .is-finite)
       (λ z. small-over t v (time-above z) F (late c z) h .is-finite))
     where
-      late : (eq t plusZero ≡ true) ⊎ T (le leastAlikeTime t) → eq t plusZero ≡ false → T (le leastAlikeTime t)
+      late : (eq t plusZero ≡ true) ⊎ T (le alikeFrom t) → eq t plusZero ≡ false → T (le alikeFrom t)
       late (inl a) z = absurd (true≢false (sym a ∙ z))
       late (inr l) z = l
 
@@ -284,7 +284,7 @@ infinity-infinite = refl
 -- ---- WHICH ANSWERS ARE INFINITE
 module _ (side : ℕ) (p f k t v w : Float) (count : ℕ) (F : T (fits binary64 t)) (e : impliedBlackVolatilityInput side p f k t ≡ answer v w count) where
   -- an infinite total comes of a price at its limit, and its volatility is infinite
-  pub infinite-total : isInfinite v ≡ true → AtLimit side p f k t × (v ≡ infinity) × (w ≡ infinity)
+  pub infinite-total : isInfinite v ≡ true → AtBoundOrBMax side p f k t × (v ≡ infinity) × (w ≡ infinity)
   infinite-total h = elim (bounded side p f k t v w count e) [
     | inl a ↦ (a .0, a .1, infinite-over side p f k t v w count e (a .0) (a .1) F)
     | inr s ↦ absurd (true≢false (sym h ∙ finite-not v (s .is-finite)))
@@ -298,7 +298,7 @@ module _ (side : ℕ) (p f k t v w : Float) (count : ℕ) (F : T (fits binary64 
   ]
 
   -- the volatility is infinite where the total is, at time 0 and from 2 ^ -966 on
-  pub infinite-alike : (eq t plusZero ≡ true) ⊎ T (le leastAlikeTime t) → isInfinite w ≡ isInfinite v
+  pub infinite-alike : (eq t plusZero ≡ true) ⊎ T (le alikeFrom t) → isInfinite w ≡ isInfinite v
   infinite-alike c = elim (bounded side p f k t v w count e) [
     | inl a ↦ ap isInfinite (infinite-over side p f k t v w count e (a .0) (a .1) F ∙ sym (a .1))
     | inr s ↦ finite-not w (finite-over side p f k t v w count e c s F) ∙ sym (finite-not v (s .is-finite))

@@ -1,16 +1,20 @@
--- No line has more than `lineBytes` bytes; what follows from whether a text was put at the start of a buffer. Assumes nothing.
+-- No line has more than `lineBytes` bytes, and none of a sheet more than `sheetLineBytes`; what follows from whether a text was put at the start of a buffer. Assumes nothing.
 use mathlib.Core.Path.{_≡_, refl, _∙_}
-use Prim.Native.Nat.{ℕ, zero, suc, _+_, _/_, _%_, _≤_, _<_}
+use Prim.Native.Nat.{ℕ, zero, suc, _+_, _/_, _%_, _^_, _≤_, _<_}
 use native.Mathlib.Omega.{arith}
 use mathlib.Core.Bool.{Bool, true, false, not, cond}
 use mathlib.Core.List.{List, [], _∷_}
+use borrow.Author.Tests.{lt-ltb}
 use lib.Dec.{T, ltb, lit≤, leb→le, nleb→lt}
+use lib.Pow.{pow-add}
 use lib.Ieee.{binary64, toBits}
 use lib.ListN.{length, length-append}
 use Rattle.io.specs.Digits.{digits, glyph}
 use Rattle.arithmetic.specs.Laws.Choices.{in-both, never}
 use Rattle.explicit_black.specs.Quote.{Reply, answer, refusal}
-use Rattle.xdr_sheet.specs.Text.{decimalDigits, hexadecimalDigits, lineBytes, places, decimal, hexadecimal}
+use Rattle.explicit_black.specs.Demand.{compared}
+use Rattle.explicit_black.specs.Laws.Quote.{Facts}
+use Rattle.xdr_sheet.specs.Text.{decimalDigits, hexadecimalDigits, lineBytes, sheetLineBytes, places, decimal, hexadecimal}
 use Rattle.xdr_sheet.specs.Text.{line, closing, refusedSheet, fitsInto, overlaid}
 use Rattle.xdr_sheet.specs.Internal.Lines.{bytesPlaced, bufferAfter}
 use Rattle.xdr_sheet.specs.declared.tally.Tally.{Tally}
@@ -31,6 +35,19 @@ few-places (suc f) n = in-both (λ (k : ℕ). k ≤ suc (suc f)) (ltb n 10) (ome
 decimal-short : (n : ℕ) → length (decimal n) ≤ decimalDigits
 unfolding decimal
 decimal-short n = omega (arith, length-digits 10 (places 19 n) n, few-places 19 n)
+
+-- a number below 10 ^ (k + 1) has k + 1 digits at most
+places-below : (f k n : ℕ) → n < 10 ^ suc k → places f n ≤ suc k
+unfolding places
+places-below zero k n h = omega arith
+places-below (suc f) zero n h = rw (lt-ltb n 10 h) (lit≤ tt)
+places-below (suc f) (suc k) n h =
+    let g : n / 10 < 10 ^ suc k = omega (arith, pow-add 10 1 (suc k)) in
+    in-both (λ (m : ℕ). m ≤ suc (suc k)) (ltb n 10) (omega arith) (omega (arith, places-below f k (n / 10) g))
+
+decimal-below : (k n : ℕ) → n < 10 ^ suc k → length (decimal n) ≤ suc k
+unfolding decimal
+decimal-below k n h = omega (arith, length-digits 10 (places 19 n) n, places-below 19 k n h)
 
 hexadecimal-short : (n : ℕ) → length (hexadecimal n) ≤ hexadecimalDigits
 unfolding hexadecimal
@@ -58,6 +75,38 @@ closing-short t = simp length-append (omega (arith, decimal-short (t .finite), d
 pub refused-short : (number : ℕ) → length (refusedSheet number) ≤ lineBytes
 unfolding refusedSheet
 refused-short number = simp length-append (omega (arith, decimal-short number))
+
+-- ---- how long a line of a sheet is: its number and count have four digits, and a tally that fits a u32 ten
+pub line-fits : (number : ℕ) (r : Reply) → number < 10 ^ 4 → Facts (compared r) → length (line number r) ≤ sheetLineBytes
+unfolding line
+line-fits number (answer total volatility count) h f =
+    let c : count < 10 ^ 4 = omega (arith, f .few) in
+    simp length-append
+    (omega (
+      arith,
+      decimal-below 3 number h,
+      hexadecimal-short (toBits binary64 total),
+      hexadecimal-short (toBits binary64 volatility),
+      decimal-below 3 count c,
+    ))
+line-fits number (refusal reason count) h f =
+    let c : count < 10 ^ 4 = omega (arith, f .few) in
+    simp length-append (omega (arith, decimal-below 3 number h, decimal-short reason, decimal-below 3 count c))
+
+pub closing-fits : (t : Tally) → t .finite < 2 ^ 32 → t .infinite < 2 ^ 32 → t .refusals < 2 ^ 32 → length (closing t) ≤ sheetLineBytes
+unfolding closing
+closing-fits t a b c =
+    simp length-append
+    (omega (
+      arith,
+      decimal-below 9 (t .finite) (omega arith),
+      decimal-below 9 (t .infinite) (omega arith),
+      decimal-below 9 (t .refusals) (omega arith),
+    ))
+
+pub refused-fits : (number : ℕ) → length (refusedSheet number) ≤ sheetLineBytes
+unfolding refusedSheet
+refused-fits number = simp length-append (omega (arith, decimal-short number))
 
 -- ---- a text was put at the start of a buffer, or had no room there
 module _ (text buffer : List ℕ) where

@@ -1,21 +1,25 @@
 -- The parts of a sheet, one after another, are its text, and each has a line of it. Assumes nothing.
 use mathlib.Core.Path.{_≡_, refl, sym, ap, _∙_}
-use Prim.Native.Nat.{ℕ, zero, suc, _+_, _-_, _≤_, _<_}
+use Prim.Native.Nat.{ℕ, zero, suc, _+_, _-_, _^_, _≤_, _<_}
 use native.Mathlib.Omega.{arith}
 use native.Mathlib.Numerals.{add-one}
 use native.Mathlib.Nat.{le-trans}
 use mathlib.Core.Bool.{cond}
+use mathlib.Core.Logic.{inl, inr}
 use mathlib.Core.List.{List, [], _∷_, _++_, append-assoc, append-nil}
 use borrow.Author.Tests.{le-leb, lt-leb}
 use lib.ListN.{length, drop, length-append}
 use Rattle.arithmetic.specs.Laws.Choices.{in-both}
+use Rattle.arithmetic.specs.Laws.Numbers.{lt-or-le}
 use Rattle.explicit_black.specs.Quote.{Reply}
+use Rattle.explicit_black.specs.Demand.{compared}
+use Rattle.explicit_black.specs.Laws.Quote.{Facts, input-facts}
 use Rattle.xdr_sheet.specs.Tally.{emptyTally, tallyWith, tallyCount}
-use Rattle.xdr_sheet.specs.Text.{lineBytes, line, closing, refusedSheet, fitsInto, overlaid}
-use Rattle.xdr_sheet.specs.Sheet.{Size, quotes, refused, size, replyAt, SheetReply, replied, noQuote, sheetReply}
+use Rattle.xdr_sheet.specs.Text.{lineBytes, sheetLineBytes, line, closing, refusedSheet, fitsInto, overlaid}
+use Rattle.xdr_sheet.specs.Sheet.{Size, quotes, refused, size, replyFrom, replyAt, SheetReply, replied, noQuote, sheetReply}
 use Rattle.xdr_sheet.specs.Sheet.{lines, tally, textOf, text}
-use Rattle.xdr_sheet.specs.Laws.Sheet.{quote-there, quote-past}
-use Rattle.xdr_sheet.specs.Laws.Lines.{line-short, closing-short, refused-short}
+use Rattle.xdr_sheet.specs.Laws.Sheet.{size-count, quote-there, quote-past}
+use Rattle.xdr_sheet.specs.Laws.Lines.{line-short, closing-short, refused-short, line-fits, closing-fits, refused-fits}
 use Rattle.xdr_sheet.specs.Laws.Tally.{count-with, tally-counts}
 use Rattle.xdr_sheet.specs.Printing.{start, Step, quoteStep, lastStep, refusedStep, stepAt, stepOf, step}
 use Rattle.xdr_sheet.specs.Printing.{upcoming, restOf, rest, left}
@@ -69,6 +73,25 @@ step-short s t = go (size s)
     go : (z : Size) → length (stepOf s t z .text) ≤ lineBytes
     go (quotes n) = at (sheetReply s (tallyCount t))
     go (refused number count) = refused-short number
+
+-- ---- a line of a sheet after tallies that fit a u32
+reply-facts : (s : List ℕ) (i : ℕ) → Facts (compared (replyAt s i))
+unfolding replyFrom
+reply-facts s i = input-facts _ _ _ _ _
+
+pub step-fits : (s : List ℕ) (t : Tally) → t .finite < 2 ^ 32 → t .infinite < 2 ^ 32 → t .refusals < 2 ^ 32
+    → length (step s t .text) ≤ sheetLineBytes
+unfolding step
+step-fits s t a b c = go (size s) refl
+  where
+    go : (z : Size) → size s ≡ z → length (stepOf s t z .text) ≤ sheetLineBytes
+    go (refused number count) e = refused-fits number
+    go (quotes n) e = elim (lt-or-le (tallyCount t) n) [
+      | inl h ↦
+          rw (← quote-there s n (tallyCount t) (sym e) h)
+          (line-fits (tallyCount t + 1) (replyAt s (tallyCount t)) (omega (arith, size-count s n (sym e))) (reply-facts s (tallyCount t)))
+      | inr h ↦ rw (← quote-past s n (tallyCount t) (sym e) h) (closing-fits t a b c)
+    ]
 
 -- ---- a part, a line at a time
 pub part-over : (s : List ℕ) (room : ℕ) → part s Over room ≡ noPart Over

@@ -56,7 +56,7 @@ sizes s n e =
         let i : n ≡ u = cc in
         rw i (ltb-false maxQuotes u few, eqb-true (length s) (bytesOf u) same)
 
-size-count : (s : List ℕ) (n : ℕ) → quotes n ≡ size s → n ≤ maxQuotes
+pub size-count : (s : List ℕ) (n : ℕ) → quotes n ≡ size s → n ≤ maxQuotes
 size-count s n e = sizes s n e .0
 
 size-length : (s : List ℕ) (n : ℕ) → quotes n ≡ size s → length s ≡ bytesOf n

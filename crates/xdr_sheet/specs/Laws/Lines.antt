@@ -1,4 +1,5 @@
--- No line has more than `lineBytes` bytes, and none of a sheet more than `sheetLineBytes`; what follows from whether a text was put at the start of a buffer. Assumes nothing.
+-- No line has more than `lineBytes` bytes, and none of a sheet more than `sheetLineBytes`; what follows from whether a text was put at the start of a
+-- buffer. Assumes nothing.
 use mathlib.Core.Path.{_≡_, refl, _∙_}
 use Prim.Native.Nat.{ℕ, zero, suc, _+_, _/_, _%_, _^_, _≤_, _<_}
 use native.Mathlib.Omega.{arith}

@@ -3,6 +3,7 @@
 use mathlib.Core.Path.{_≡_, refl, _∙_}
 use Prim.Native.Nat.{ℕ, zero, suc, _+_, _/_, _%_, _^_, _≤_, _<_}
 use native.Mathlib.Omega.{arith}
+use native.Mathlib.Nat.{le-trans}
 use mathlib.Core.Bool.{Bool, true, false, not, cond}
 use mathlib.Core.List.{List, [], _∷_}
 use borrow.Author.Tests.{lt-ltb}
@@ -54,60 +55,45 @@ hexadecimal-short : (n : ℕ) → length (hexadecimal n) ≤ hexadecimalDigits
 unfolding hexadecimal
 hexadecimal-short n = omega (arith, length-digits 16 hexadecimalDigits n)
 
--- ---- how long a line is
-pub line-short : (number : ℕ) (r : Reply) → length (line number r) ≤ lineBytes
+-- ---- how long a line is, by the most digits of its decimal numbers
+line-within : (d number : ℕ) (r : Reply) → length (decimal number) ≤ d → length (decimal (compared r .count)) ≤ d
+    → length (line number r) ≤ 38 + (d + d)
 unfolding line
-line-short number (answer total volatility count) =
-    simp length-append
-    (omega (
-      arith,
-      decimal-short number,
-      hexadecimal-short (toBits binary64 total),
-      hexadecimal-short (toBits binary64 volatility),
-      decimal-short count,
-    ))
-line-short number (refusal reason count) =
-    simp length-append (omega (arith, decimal-short number, decimal-short reason, decimal-short count))
+line-within d number (answer total volatility count) h c =
+    simp length-append (omega (arith, h, c, hexadecimal-short (toBits binary64 total), hexadecimal-short (toBits binary64 volatility)))
+line-within d number (refusal reason count) h c = simp length-append (omega (arith, h, c, decimal-short reason))
+
+closing-within : (d : ℕ) (t : Tally) → length (decimal (t .finite)) ≤ d → length (decimal (t .infinite)) ≤ d → length (decimal (t .refusals)) ≤ d
+    → length (closing t) ≤ 5 + (d + d + d)
+unfolding closing
+closing-within d t a b c = simp length-append (omega (arith, a, b, c))
+
+refused-within : (number : ℕ) → length (refusedSheet number) ≤ 3 + decimalDigits
+unfolding refusedSheet
+refused-within number = simp length-append (omega (arith, decimal-short number))
+
+-- any line
+pub line-short : (number : ℕ) (r : Reply) → length (line number r) ≤ lineBytes
+line-short number r = le-trans (line-within decimalDigits number r (decimal-short number) (decimal-short (compared r .count))) (lit≤ tt)
 
 pub closing-short : (t : Tally) → length (closing t) ≤ lineBytes
-unfolding closing
-closing-short t = simp length-append (omega (arith, decimal-short (t .finite), decimal-short (t .infinite), decimal-short (t .refusals)))
+closing-short t =
+    le-trans (closing-within decimalDigits t (decimal-short (t .finite)) (decimal-short (t .infinite)) (decimal-short (t .refusals))) (lit≤ tt)
 
 pub refused-short : (number : ℕ) → length (refusedSheet number) ≤ lineBytes
-unfolding refusedSheet
-refused-short number = simp length-append (omega (arith, decimal-short number))
+refused-short number = le-trans (refused-within number) (lit≤ tt)
 
--- ---- how long a line of a sheet is: its number and count have four digits, and a tally that fits a u32 ten
+-- a line of a sheet: number and count have four digits at most, and a tally that fits a u32 ten
 pub line-fits : (number : ℕ) (r : Reply) → number < 10 ^ 4 → Facts (compared r) → length (line number r) ≤ sheetLineBytes
-unfolding line
-line-fits number (answer total volatility count) h f =
-    let c : count < 10 ^ 4 = omega (arith, f .few) in
-    simp length-append
-    (omega (
-      arith,
-      decimal-below 3 number h,
-      hexadecimal-short (toBits binary64 total),
-      hexadecimal-short (toBits binary64 volatility),
-      decimal-below 3 count c,
-    ))
-line-fits number (refusal reason count) h f =
-    let c : count < 10 ^ 4 = omega (arith, f .few) in
-    simp length-append (omega (arith, decimal-below 3 number h, decimal-short reason, decimal-below 3 count c))
+line-fits number r h f = line-within 4 number r (decimal-below 3 number h) (decimal-below 3 (compared r .count) (omega (arith, f .few)))
 
 pub closing-fits : (t : Tally) → t .finite < 2 ^ 32 → t .infinite < 2 ^ 32 → t .refusals < 2 ^ 32 → length (closing t) ≤ sheetLineBytes
-unfolding closing
 closing-fits t a b c =
-    simp length-append
-    (omega (
-      arith,
-      decimal-below 9 (t .finite) (omega arith),
-      decimal-below 9 (t .infinite) (omega arith),
-      decimal-below 9 (t .refusals) (omega arith),
-    ))
+    let ten : (n : ℕ) → n < 2 ^ 32 → length (decimal n) ≤ 10 = λ n h. decimal-below 9 n (omega arith) in
+    le-trans (closing-within 10 t (ten (t .finite) a) (ten (t .infinite) b) (ten (t .refusals) c)) (lit≤ tt)
 
 pub refused-fits : (number : ℕ) → length (refusedSheet number) ≤ sheetLineBytes
-unfolding refusedSheet
-refused-fits number = simp length-append (omega (arith, decimal-short number))
+refused-fits number = le-trans (refused-within number) (lit≤ tt)
 
 -- ---- a text was put at the start of a buffer, or had no room there
 module _ (text buffer : List ℕ) where

@@ -1,4 +1,4 @@
--- The parts of a sheet, one after another, are its text, and each has a line of it. Assumes nothing.
+-- The parts of a sheet, one after another, are its text, and each has a line of it; how long such a line is. Assumes nothing.
 use mathlib.Core.Path.{_≡_, refl, sym, ap, _∙_}
 use Prim.Native.Nat.{ℕ, zero, suc, _+_, _-_, _^_, _≤_, _<_}
 use native.Mathlib.Omega.{arith}

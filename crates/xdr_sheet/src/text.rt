@@ -3,13 +3,13 @@ ghost use mathlib.Core.Path.{_≡_};
 ghost use mathlib.Core.List.{_∷_, [], _++_};
 ghost use Prim.Native.Nat.{_+_, _≤_, _<_};
 ghost use lib.ListN.{length, take, drop};
-ghost use lib.Ieee.{binary64, toBits};
 ghost use Rattle.explicit_black.specs.Replies.{viewReply, viewPriceReply};
 ghost use Rattle.xdr_sheet.specs.Text.{lineBytes, decimalDigits, hexadecimalDigits};
 ghost use Rattle.xdr_sheet.specs.Text.{decimal, hexadecimal, answerFields, refusalFields, priceFields, line, priceLine, closing, refusedSheet};
 ghost use Rattle.xdr_sheet.specs.Internal.Lines.{written, Extended, bytesPlaced, bufferAfter};
 use crate::price_record::RecordNumber;
 use crate::tally::Tally;
+use crate::xdr::pattern;
 use explicit_black::price::PriceReply;
 use explicit_black::quote::Reply;
 
@@ -18,8 +18,6 @@ pub const LINE_BYTES: usize = 80;
 const DECIMAL_DIGITS: usize = 20;
 
 const HEXADECIMAL_DIGITS: usize = 16;
-
-const QUIET_NAN: u64 = 0x7ff8_0000_0000_0000;
 
 // Its text is the first `length` of the bytes; those after it are no part of the line, whatever they are.
 pub struct Line {
@@ -131,16 +129,6 @@ impl Line {
     {
         self.bytes(b" P ").hexadecimal(bits).bytes(b"\n")
     }
-}
-
-// The pattern of x. NaN has many: here it is QUIET_NAN.
-fn pattern(x: f64) -> u64
-    ensures { λ r. ⌜ r ≡ toBits binary64 x ⌝ }
-{
-    if x != x {
-        return QUIET_NAN;
-    }
-    f64::to_bits(x)
 }
 
 // The line of a reply with the quote's number.

@@ -2,7 +2,7 @@
 ghost use mathlib.Core.Path.{_≡_};
 ghost use Prim.Native.Nat.{_+_, _≤_, _<_, _^_};
 ghost use lib.ListN.{length};
-ghost use lib.Ieee.{binary64, ofBits};
+ghost use lib.Ieee.{binary64, ofBits, toBits};
 ghost use Rattle.xdr_sheet.specs.Xdr.{word, there, unsigned, hyper, double};
 use arithmetic::format::INFINITY;
 use arithmetic::format::SIGN;
@@ -15,6 +15,8 @@ const HYPER_BYTES: usize = 8;
 const BYTE_VALUES: u64 = 0x100;
 
 const WORD_VALUES: u64 = 0x1_0000_0000;
+
+const QUIET_NAN: u64 = 0x7ff8_0000_0000_0000;
 
 fn wide(byte: u8) -> u64
     ensures { λ r. ⌜ (r ≡ byte) × (r < 256) ⌝ }
@@ -68,6 +70,16 @@ pub fn value(bits: u64) -> f64
         return 0.0 / 0.0;
     }
     f64::from_bits(bits)
+}
+
+// The pattern of x. NaN has many: here it is QUIET_NAN.
+pub fn pattern(x: f64) -> u64
+    ensures { λ r. ⌜ r ≡ toBits binary64 x ⌝ }
+{
+    if x != x {
+        return QUIET_NAN;
+    }
+    f64::to_bits(x)
 }
 
 // A double: the value of the pattern in two words.

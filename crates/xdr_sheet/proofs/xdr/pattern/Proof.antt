@@ -1,9 +1,9 @@
--- `text::pattern` meets its contract: what differs from itself is NaN; anything else has one pattern. Assumes nothing.
+-- `xdr::pattern` meets its contract: what differs from itself is NaN; anything else has one pattern. Assumes nothing.
 use Rattle.arithmetic.specs.Laws.Signs.{has-bits}
 use Rattle.xdr_sheet.proofs.Patterns.{nan-pattern}
 use borrow.Author.Needs.{needs}
-use Rattle.xdr_sheet.proofs.text.pattern.Statement.{statement}
-use Rattle.xdr_sheet.proofs.text.pattern.Tie as tie
+use Rattle.xdr_sheet.proofs.xdr.pattern.Statement.{statement}
+use Rattle.xdr_sheet.proofs.xdr.pattern.Tie as tie
 
 returns : tie.Need-returns
 returns c = nan-pattern (c .before .args .x) (c .if1 .taken)

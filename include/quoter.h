@@ -1,5 +1,5 @@
-/* The Black volatility of a quote, the price of a volatility, ladders and sheets of quotes, and the functions that these are computed with: the
-   static library of the crate `exports`, for x86-64 Linux. docs/REQUIREMENTS.md says what each call computes; section numbers below are its.
+/* The Black volatility of a quote, the price of a volatility, ladders and sheets of quotes, the cable window, and the functions that these are
+   computed with: the static library of the crate `exports`, for x86-64 Linux. docs/REQUIREMENTS.md says what each call computes; section numbers below are its.
 
    Every function takes any bits and ends. It keeps no state, so that threads may call it at once, uses no heap, and calls nothing of its
    caller's.
@@ -73,6 +73,7 @@ double quoter_inverse_gaussian_survival(double x, double mu);
     11  of quoter_price alone: volatility is below 0
     12  of a ladder: not all six lengths are equal
     13  of a ladder: more than 500 strikes
+    14  of a window: the offset is no multiple of 4, or not writable
    Refusals other than 9 have 0 evaluations. quoter_normalised returns 0, 2, 7, 8 or 9, and answers as at time 1. */
 uint32_t quoter_quote(uint32_t side, double price, double forward, double strike, double time,
                       double *total, double *volatility, uint64_t *count);
@@ -118,6 +119,21 @@ uint32_t quoter_sheet_quote(const uint8_t *sheet, uint64_t length, uint64_t inde
    Returns 0 where `room` is less than the line's number of bytes: nothing is written, and the three too are as they were. */
 uint32_t quoter_sheet_line(const uint8_t *sheet, uint64_t length, uint32_t *finite, uint32_t *infinite, uint32_t *refusals,
                            uint8_t *text, uint64_t room, uint64_t *count);
+
+/* A word written to the cable window (section 14.6): 64 bytes, 16 words of XDR, the highest byte first.
+      0  command: bit 1 clears the interrupt, then bit 0 solves; its other bits do nothing, and it reads as 0
+      4  status: bit 0 done, bit 1 refused, bit 2 interrupt, bits 8 to 15 the number of the refusal or 0
+      8  side
+     12  price, 20 forward, 28 strike, 36 time: doubles in two words each, the high one first
+     44  total volatility, 52 volatility: doubles, 0 where the last solve was refused
+     60  the number of evaluations
+   Start from 64 zeros. Write the figures, in any order, write 1 at 0, and read status and results, which stay until the next solve; or hold other
+   64 bytes, and the rules are the same. Bit 0 of a word is the least significant.
+   Returns 0 for an offset of 0 or 8, 12, .. 40: the word was written there, or at 0 carried out. A solve is quoter_quote of the window's side and
+   doubles, any bits, and stores an answer by its bits; no call reads or changes a byte outside the 64, and a NaN pattern stays as it was written.
+   Otherwise returns 14: the window is as it was. */
+#define QUOTER_WINDOW_BYTES 64
+uint32_t quoter_window_write(uint8_t window[QUOTER_WINDOW_BYTES], uint32_t offset, uint32_t word);
 
 #ifdef __cplusplus
 }

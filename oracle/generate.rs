@@ -1,4 +1,4 @@
-//! Writes inputs to standard output: records for `vectors` or `prices`, a sheet, or ladders.
+//! Writes inputs to standard output: records for `vectors` or `prices`, a sheet, ladders, or lists of writes for `windows`.
 
 #[allow(dead_code)]
 mod inputs;
@@ -8,12 +8,15 @@ mod ladder_inputs;
 mod price_inputs;
 #[allow(dead_code)]
 mod standin;
+#[allow(dead_code)]
+mod window_inputs;
 
 use inputs::{Inputs, KINDS, Quote, Quotes, kept};
 use ladder_inputs::{LADDER_KINDS, Ladder, Ladders, kept_ladders};
 use price_inputs::{Keyed, PRICE_KINDS, Prices, kept_prices};
 use std::io::{self, BufWriter, Write};
 use std::process::exit;
+use window_inputs::{List, MOST, WINDOW_KINDS, Windows, kept_windows};
 
 fn usage() -> ! {
     eprintln!(
@@ -25,10 +28,13 @@ fn usage() -> ! {
        oracle/generate kept-prices SEED              the records that the repository keeps: 1,500, and a last one without its end
        oracle/generate ladders KIND COUNT SEED       ladders until they have COUNT places; KIND: {} or mixed
        oracle/generate kept-ladders SEED             the ladders that the repository keeps, and a last one without its end
+       oracle/generate windows KIND COUNT SEED       lists of COUNT writes in all; KIND: {} or mixed
+       oracle/generate kept-windows SEED             the lists that the repository keeps, and a last one without its end
 Exit status: 0 written; 1 it could not be written or built; 2 bad usage; 4 rustc is not there.",
         KINDS.join(", "),
         PRICE_KINDS.join(", "),
-        LADDER_KINDS.join(", ")
+        LADDER_KINDS.join(", "),
+        WINDOW_KINDS.join(", ")
     );
     exit(2)
 }
@@ -90,6 +96,41 @@ fn put_kept_ladders(seed: u64, out: &mut impl Write) -> io::Result<()> {
     out.write_all(&last[..last.len() - 1])
 }
 
+/// A list of `windows`.
+fn put_list(list: &List, out: &mut impl Write) -> io::Result<()> {
+    out.write_all(&(list.len() as u32).to_be_bytes())?;
+    list.iter().flat_map(|write| [write.offset, write.word]).try_for_each(|word| out.write_all(&word.to_be_bytes()))
+}
+
+/// Lists of one kind, or of all in turn, until they have so many writes.
+fn put_windows(kind: &str, count: usize, seed: u64, out: &mut impl Write) -> io::Result<()> {
+    let kinds = (0..WINDOW_KINDS.len()).filter(|&i| kind == "mixed" || WINDOW_KINDS[i] == kind);
+    let mut windows: Vec<Windows> = kinds.map(|i| Windows::new(i, seed, MOST)).collect();
+    if windows.is_empty() {
+        usage();
+    }
+    let (mut left, n) = (count, windows.len());
+    for i in 0.. {
+        if left == 0 {
+            break;
+        }
+        let mut list = windows[i % n].next();
+        list.truncate(left);
+        left -= list.len();
+        put_list(&list, out)?;
+    }
+    Ok(())
+}
+
+/// The kept lists, then the first of them that has a write without its last byte.
+fn put_kept_windows(seed: u64, out: &mut impl Write) -> io::Result<()> {
+    let kept = kept_windows(seed);
+    kept.iter().try_for_each(|list| put_list(list, out))?;
+    let mut last = Vec::new();
+    put_list(kept.iter().find(|list| !list.is_empty()).unwrap(), &mut last)?;
+    out.write_all(&last[..last.len() - 1])
+}
+
 /// Quotes of one kind, or of all in turn.
 fn drawn(kind: &str, count: usize, seed: u64) -> Vec<Quote> {
     let kinds = (0..KINDS.len()).filter(|&i| kind == "mixed" || KINDS[i] == kind);
@@ -145,6 +186,8 @@ fn main() -> io::Result<()> {
         }
         ["ladders", kind, count, seed] => put_ladders(kind, number(count) as usize, number(seed), &mut out)?,
         ["kept-ladders", seed] => put_kept_ladders(number(seed), &mut out)?,
+        ["windows", kind, count, seed] => put_windows(kind, number(count) as usize, number(seed), &mut out)?,
+        ["kept-windows", seed] => put_kept_windows(number(seed), &mut out)?,
         ["vectors", name, count, seed] => {
             let mut inputs = Inputs::new(function(name), number(seed));
             put_records(function(name), (0..number(count)).map(|_| inputs.next()), &mut out)?

@@ -929,7 +929,7 @@ fn doubled() -> [Quote; 4] {
 }
 
 /// The quotes of docs/REQUIREMENTS.md: the sample sheet, the table's examples with one for 8, and the keystrokes.
-fn examples() -> Vec<Quote> {
+pub fn examples() -> Vec<Quote> {
     let tiny = power(-1074);
     vec![
         quote(0, 0.0, 100.0, 120.0, 1.0),
@@ -1023,7 +1023,7 @@ fn infinite_below() -> Vec<Quote> {
 /// Quotes that a wrong tally would count otherwise. Infinite: prices at their bound, and some below. Finite: prices one unit below their bound;
 /// the largest finite total that searches found, 81.10; a normalised time value that is b_max, but not above 2^-1022; and at time zero prices
 /// at a bound that is the intrinsic value too, 1 - 2^-1074 being rounded to 1. Of a total, the volatility is largest at time 2^-1074.
-fn limits() -> Vec<Quote> {
+pub fn limits() -> Vec<Quote> {
     let tiny = power(-1074);
     let mut list = Vec::new();
     for (side, forward, strike) in [(0, 100.0, 120.0), (1, 100.0, 120.0), (0, 120.0, 100.0), (1, 120.0, 100.0)] {

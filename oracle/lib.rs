@@ -13,6 +13,8 @@ pub mod price_inputs;
 pub mod quote;
 pub mod sheet;
 pub mod standin;
+pub mod window;
+pub mod window_inputs;
 
 pub use lets_be_rational::special_function::{DefaultSpecialFn, SpecialFn};
 

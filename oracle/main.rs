@@ -1,6 +1,8 @@
-//! `oracle vectors`, `oracle sheet`, `oracle prices` and `oracle ladders`: the interfaces of the proved programs, answered by the Rust source.
+//! `oracle vectors`, `oracle sheet`, `oracle prices`, `oracle ladders` and `oracle windows`: the interfaces of the proved programs, answered by
+//! the Rust source.
 
 use oracle::ladder_inputs::Ladder;
+use oracle::window_inputs::{List, MOST, WordWrite};
 use std::io::{self, BufRead, BufReader, BufWriter, Read, Write};
 use std::process::exit;
 
@@ -73,6 +75,29 @@ fn ladders() -> io::Result<()> {
     output.flush()
 }
 
+/// The next list of writes, or none where the input ends inside it or its count is over 512.
+fn next_list(input: &mut impl Read) -> Option<List> {
+    let mut word = || {
+        let mut bytes = [0u8; 4];
+        input.read_exact(&mut bytes).ok()?;
+        Some(u32::from_be_bytes(bytes))
+    };
+    let count = word()?;
+    if count as usize > MOST {
+        return None;
+    }
+    (0..count).map(|_| Some(WordWrite { offset: word()?, word: word()? })).collect()
+}
+
+fn windows() -> io::Result<()> {
+    let mut input = BufReader::with_capacity(1 << 20, io::stdin().lock());
+    let mut output = BufWriter::with_capacity(1 << 20, io::stdout().lock());
+    while let Some(list) = next_list(&mut input) {
+        output.write_all(oracle::window::text(&list).as_bytes())?;
+    }
+    output.flush()
+}
+
 fn sheet() -> io::Result<()> {
     let mut bytes = Vec::new();
     // One byte more than the longest sheet is enough to refuse.
@@ -86,8 +111,11 @@ fn main() -> io::Result<()> {
         Some("sheet") => sheet(),
         Some("prices") => prices(),
         Some("ladders") => ladders(),
+        Some("windows") => windows(),
         _ => {
-            eprintln!("usage: oracle vectors | sheet | prices | ladders   (standard input to standard output)");
+            eprintln!(
+                "usage: oracle vectors | sheet | prices | ladders | windows   (standard input to standard output)"
+            );
             exit(2)
         }
     }

@@ -1,4 +1,5 @@
-// The C interface: the layers' functions, the entries and sheets, on numbers and lent bytes. include/quoter.h declares it.
+// The C interface: the layers' functions, the entries, sheets and the window, on numbers and lent bytes. include/quoter.h declares it.
+use cable_window::window::Window;
 use explicit_black::curves::Allowance;
 use explicit_black::curves::Evaluation;
 use explicit_black::curves::SurvivalEvaluation;
@@ -25,6 +26,7 @@ ghost use Rattle.explicit_black.specs.Quote.{impliedBlackVolatilityNormalised, 
 ghost use Rattle.explicit_black.specs.Price.{blackPrice};
 ghost use Rattle.explicit_black.specs.Replies.{viewReply};
 ghost use Rattle.ladder.specs.Ladder.{ladder};
+ghost use Rattle.cable_window.specs.Window.{offsetRefusal, afterWrite};
 ghost use Rattle.xdr_sheet.specs.Sheet.{size, sheetReply};
 ghost use Rattle.xdr_sheet.specs.Tally.{tallyOf};
 ghost use Rattle.exports.specs.ToC.{handedReply, replyToC, sheetReplyToC, handedPrice, priceToC, handedLadder, ladderToC};
@@ -368,4 +370,12 @@ pub extern "C" fn quoter_sheet_line(
         }
         Placed::NoRoom => 0,
     }
+}
+
+// A word written to a window, which C lends as its 64 bytes. 0, or 14 with the window as it was.
+#[no_mangle]
+pub extern "C" fn quoter_window_write(window: &mut Window, offset: u32, word: u32) -> u32
+    ensures { λ r. ⌜ (r ≡ offsetRefusal offset) × (now (window .exit) .bytes ≡ afterWrite (now (window .entry) .bytes) offset word) ⌝ }
+{
+    cable_window::window::write(window, offset, word)
 }

@@ -1,11 +1,13 @@
 /* Calls every function of include/quoter.h.
 
-   usage: c-interface             values known from docs/REQUIREMENTS.md: refusals, the sample sheet, tallies, keystrokes, prices, ladders
+   usage: c-interface             values known from docs/REQUIREMENTS.md: refusals, the sample sheet, tallies, keystrokes, prices, ladders, a host's
+                                  words to a window
           c-interface vectors     the interface of `vectors` but for signum, max and min
           c-interface lines       the interface of `sheet`, by quoter_sheet_line
           c-interface quotes      the same, by quoter_sheet_size and quoter_sheet_quote
           c-interface prices      the interface of `prices`
           c-interface ladders     the interface of `ladders`
+          c-interface windows     the interface of `windows`
 
    Exit status: 0 all well, 1 a known value differs or a refusal wrote something, 2 bad usage. */
 #include "quoter.h"
@@ -648,6 +650,207 @@ static void known_walks(void)
     walk("lines of 1000 quotes", LIMITS, PLACES(LIMITS), 1000);
 }
 
+/* A window, and the host's own bytes before and after it. It starts at an odd place: bytes need no alignment. */
+enum { WINDOW = 64, FENCE = 33, STATUS = 4, FIGURES = 8, TOTAL = 44, VOLATILITY = 52, COUNT = 60 };
+enum { SOLVE = 1, CLEAR = 2, DONE = 1, REFUSED = 2, INTERRUPT = 4 };
+struct host {
+    uint8_t before[FENCE], window[WINDOW], after[FENCE];
+};
+
+/* A window that has one byte all over. */
+static struct host filled(int byte)
+{
+    struct host h;
+    memset(h.before, 0xA5, sizeof h.before);
+    memset(h.window, byte, sizeof h.window);
+    memset(h.after, 0x5A, sizeof h.after);
+    return h;
+}
+
+static uint32_t shown(const struct host *h, int offset)
+{
+    return (uint32_t)word(h->window + offset, 4);
+}
+
+/* A write that returns this number and leaves these bytes, the host's own too. */
+static void writes(const char *what, struct host *h, uint32_t offset, uint32_t w, uint32_t number, struct host right)
+{
+    uint32_t found = quoter_window_write(h->window, offset, w);
+    check(what, found == number && memcmp(h, &right, sizeof right) == 0);
+    *h = right;
+}
+
+/* A word of a figure: it alone changes. */
+static void figure_word(const char *what, struct host *h, uint32_t offset, uint32_t w)
+{
+    struct host right = *h;
+    put(right.window + offset, w, 4);
+    writes(what, h, offset, w, 0, right);
+}
+
+/* A command that does not solve: bit 1 clears the interrupt, and the command reads as 0. */
+static void command(const char *what, struct host *h, uint32_t w)
+{
+    struct host right = *h;
+    put(right.window, 0, 4);
+    if (w & CLEAR)
+        put(right.window + STATUS, shown(h, STATUS) & ~(uint32_t)INTERRUPT, 4);
+    writes(what, h, 0, w, 0, right);
+}
+
+/* A quote's nine words, which stand in a window as in a sheet; in that order, or against it. */
+static void set(const char *what, struct host *h, const struct listed *q, int against)
+{
+    uint8_t sheet[4 + 36];
+    write_sheet(sheet, q, 1, 1);
+    for (int i = 0; i < 9; i++) {
+        int at = 4 * (against ? 8 - i : i);
+        figure_word(what, h, (uint32_t)(FIGURES + at), (uint32_t)word(sheet + 4 + at, 4));
+    }
+}
+
+/* A command that solves the quote which was set. The number is known; the figures and the count are those that quoter_quote gives. */
+static void solve(const char *what, struct host *h, const struct listed *q, uint32_t w)
+{
+    struct host right = *h;
+    double total = 0.0, volatility = 0.0;
+    uint64_t count = 7;
+    uint32_t number = quoter_quote(q->side, q->price, q->forward, q->strike, q->time, &total, &volatility, &count);
+    put(right.window, 0, 4);
+    put(right.window + STATUS, DONE | INTERRUPT | (q->number != 0 ? REFUSED | q->number << 8 : 0), 4);
+    put(right.window + TOTAL, bits(total), 8);
+    put(right.window + VOLATILITY, bits(volatility), 8);
+    put(right.window + COUNT, count, 4);
+    check(what, number == q->number);
+    writes(what, h, 0, w, 0, right);
+}
+
+/* The desk's call, whose figures are the oracle's, at time 1 and at time 0.25. */
+static const struct listed CALL = {0, 1.0, 100.0, 120.0, 1.0, 0, 0.15509699992515916};
+static const struct listed EARLIER = {0, 1.0, 100.0, 120.0, 0.25, 0, 0.15509699992515916};
+
+/* A host's day: it sets the figures, solves, polls, reads the results, clears the interrupt, and starts again. */
+static void known_host(void)
+{
+    for (int against = 0; against < 2; against++) {
+        struct host h = filled(0);
+        set("figures of the call", &h, &CALL, against);
+        check("not done yet", shown(&h, STATUS) == 0);
+        solve("call", &h, &CALL, SOLVE);
+        check("done, with an interrupt", shown(&h, STATUS) == (DONE | INTERRUPT) && shown(&h, 0) == 0);
+        check("total of the call", word(h.window + TOTAL, 8) == bits(CALL.total) && word(h.window + VOLATILITY, 8) == bits(CALL.total));
+        check("count of the call", shown(&h, COUNT) == 12);
+        command("interrupt cleared", &h, CLEAR);
+        check("still done", shown(&h, STATUS) == DONE);
+        command("cleared twice", &h, CLEAR);
+        command("no command", &h, 0);
+        set("figures of the other call", &h, &EARLIER, !against);
+        solve("clear and solve", &h, &EARLIER, CLEAR | SOLVE);
+        check("total and twice as much", word(h.window + TOTAL, 8) == bits(CALL.total) && word(h.window + VOLATILITY, 8) == bits(2.0 * CALL.total));
+        solve("solved again", &h, &EARLIER, SOLVE);
+        solve("solved and cleared again", &h, &EARLIER, CLEAR | SOLVE);
+    }
+}
+
+/* The table's refusals, and answers that need no search. */
+static const struct listed OUTCOMES[] = {
+    {2, 1.0, 100.0, 100.0, 1.0, 1, 0.0}, {UINT32_MAX, NAN, 0.0, 100.0, -1.0, 1, 0.0}, {0, NAN, 100.0, 100.0, 1.0, 2, 0.0},
+    {1, 1.0, 100.0, 100.0, -INFINITY, 2, 0.0}, {0, 1.0, 0.0, 100.0, 1.0, 3, 0.0}, {0, 1.0, 100.0, 100.0, -1.0, 4, 0.0},
+    {0, 19.0, 120.0, 100.0, 0.0, 5, 0.0}, {0, 101.0, 100.0, 120.0, 1.0, 6, 0.0}, {1, 5.0, 100.0, 120.0, 1.0, 7, 0.0},
+    {1, 92.07499999999999, 184.15, 92.075, 1.0, 8, 0.0}, {0, 0.0, 100.0, 120.0, 1.0, 0, 0.0}, {0, -0.0, 100.0, 120.0, 1.0, 0, 0.0},
+    {0, 100.0, 100.0, 120.0, 1.0, 0, INFINITY}, {0, 20.0, 120.0, 100.0, -0.0, 0, 0.0}, {0, 0.0, 0.0, 0.0, 0.0, 3, 0.0},
+};
+
+/* Each after the call and before it, its interrupt cleared alone and by the command that solves. */
+static void known_outcomes(void)
+{
+    struct host h = filled(0);
+    for (int i = 0; i < PLACES(OUTCOMES); i++) {
+        const struct listed *q = &OUTCOMES[i];
+        set("figures before an outcome", &h, &CALL, 0);
+        solve("answer before an outcome", &h, &CALL, SOLVE);
+        set("figures of an outcome", &h, q, i % 2);
+        solve("outcome", &h, q, SOLVE);
+        check("total of an outcome", word(h.window + TOTAL, 8) == bits(q->total) && word(h.window + VOLATILITY, 8) == bits(q->total));
+        check("count of an outcome", shown(&h, COUNT) == 0);
+        command("interrupt of an outcome cleared", &h, CLEAR);
+        check("bits but the interrupt's", shown(&h, STATUS) == (q->number == 0 ? DONE : DONE | REFUSED | q->number << 8));
+        solve("outcome, clear and solve", &h, q, CLEAR | SOLVE);
+    }
+}
+
+/* Patterns of NaN, quiet and signalling, and the infinities, in each double, written in halves and in either order: they stay, also where a
+   solve reads them. */
+static void known_nans(void)
+{
+    static const uint64_t patterns[] = {0x7FF8000000000000, 0xFFF8000000000000, 0x7FF0000000000001, 0xFFF0000000000001, 0x7FF4000000000000,
+                                        0xFFF7FFFFFFFFFFFF, 0x7FFFFFFFFFFFFFFF, 0xFFFFFFFF00000000, 0x7FF0000000000000, 0xFFF0000000000000};
+    const struct listed refused = {0, NAN, 100.0, 120.0, 1.0, 2, 0.0};
+    for (int place = 0; place < 4; place++) {
+        struct host h = filled(0);
+        set("figures before a NaN", &h, &CALL, 0);
+        for (int i = 0; i < PLACES(patterns); i++) {
+            uint32_t at = (uint32_t)(FIGURES + 4 + 8 * place), high = (uint32_t)(patterns[i] >> 32), low = (uint32_t)patterns[i];
+            figure_word("half of a NaN", &h, i % 2 ? at : at + 4, i % 2 ? high : low);
+            figure_word("other half of a NaN", &h, i % 2 ? at + 4 : at, i % 2 ? low : high);
+            solve("NaN solved", &h, &refused, i % 3 ? SOLVE : CLEAR | SOLVE);
+            check("NaN as written", word(h.window + at, 8) == patterns[i]);
+        }
+    }
+}
+
+/* Every offset up to 80 and some beyond, with a word that would clear and solve at 0: of a window that was solved and cleared, and of any bytes. */
+static void known_offsets(void)
+{
+    static const uint32_t large[] = {256, 264, 0x10000, 0x10008, 0x7FFFFFFC, 0x80000000, 0x80000008, 0xFFFFFFC0, 0xFFFFFFC8, 0xFFFFFFFC, 0xFFFFFFFF};
+    for (int kind = 0; kind < 2; kind++) {
+        struct host before = filled(kind ? 0xFF : 0);
+        set("figures before the offsets", &before, &CALL, 0);
+        if (kind == 0) {
+            solve("call before the offsets", &before, &CALL, SOLVE);
+            command("cleared before the offsets", &before, CLEAR);
+        }
+        for (uint32_t i = 0; i <= 80 + PLACES(large); i++) {
+            struct host h = before;
+            uint32_t offset = i <= 80 ? i : large[i - 81], w = 0x5A000003 | (i << 8);
+            if (offset == 0)
+                solve("offset 0", &h, &CALL, w);
+            else if (offset >= 8 && offset <= 40 && offset % 4 == 0)
+                figure_word("offset of a figure", &h, offset, w);
+            else
+                writes("offset refused", &h, offset, w, 14, before);
+        }
+    }
+}
+
+/* Bits 0 and 1 alone and with others, each other bit by itself, on a window with an interrupt and one without, and on one of any bytes. */
+static void known_commands(void)
+{
+    static const uint32_t others[] = {0, 0xFFFFFFFC, 0x80000000, 4, 0x100, 0x01000000, 0x03000000, 0x7FFFFFF8};
+    for (int kind = 0; kind < 3; kind++) {
+        struct host before = filled(kind == 2 ? 0xFF : 0);
+        set("figures before the commands", &before, &EARLIER, 0);
+        if (kind < 2)
+            solve("solved before the commands", &before, &EARLIER, SOLVE);
+        if (kind == 1)
+            command("cleared before the commands", &before, CLEAR);
+        /* so that another solve would show */
+        set("other figures before the commands", &before, &CALL, 0);
+        for (uint32_t i = 0; i < 4 * PLACES(others); i++) {
+            struct host h = before;
+            uint32_t w = others[i / 4] | i % 4;
+            if (w & SOLVE)
+                solve("command that solves", &h, &CALL, w);
+            else
+                command("command that does not solve", &h, w);
+        }
+        for (int n = 2; n < 32; n++) {
+            struct host h = before;
+            command("one other bit", &h, (uint32_t)1 << n);
+        }
+    }
+}
+
 static int known(void)
 {
     write_sheet(sample, SAMPLE, 3, 3);
@@ -666,6 +869,11 @@ static int known(void)
     known_tallies();
     known_limits();
     known_walks();
+    known_host();
+    known_outcomes();
+    known_nans();
+    known_offsets();
+    known_commands();
     printf("%u checks, %u differ\n", run, differ);
     return differ > 0;
 }
@@ -850,6 +1058,36 @@ static int ladders(void)
     return 0;
 }
 
+static void print_window(const struct host *h)
+{
+    for (int at = 0; at < WINDOW; at += 4)
+        printf(" %08" PRIx32, shown(h, at));
+    printf("\n");
+}
+
+/* Exit status 1 where the host's own bytes change. A count over 512 ends the run; a list is read before it is answered. */
+static int windows(void)
+{
+    static uint8_t pairs[8 * SPAN];
+    uint8_t head[4];
+    while (fread(head, 1, sizeof head, stdin) == sizeof head) {
+        const struct host zeros = filled(0);
+        struct host h = zeros;
+        uint64_t count = word(head, 4);
+        if (count > SPAN || fread(pairs, 8, (size_t)count, stdin) != count)
+            return 0;
+        for (uint64_t i = 0; i < count; i++) {
+            printf("%" PRIu32, quoter_window_write(h.window, (uint32_t)word(pairs + 8 * i, 4), (uint32_t)word(pairs + 8 * i + 4, 4)));
+            print_window(&h);
+        }
+        printf("W");
+        print_window(&h);
+        if (memcmp(h.before, zeros.before, FENCE) != 0 || memcmp(h.after, zeros.after, FENCE) != 0)
+            return 1;
+    }
+    return 0;
+}
+
 int main(int argc, char **argv)
 {
     static uint8_t sheet[36005];
@@ -866,6 +1104,8 @@ int main(int argc, char **argv)
         return prices();
     if (strcmp(mode, "ladders") == 0)
         return ladders();
-    fputs("usage: c-interface [vectors | lines | quotes | prices | ladders]\n", stderr);
+    if (strcmp(mode, "windows") == 0)
+        return windows();
+    fputs("usage: c-interface [vectors | lines | quotes | prices | ladders | windows]\n", stderr);
     return 2;
 }

@@ -5,6 +5,7 @@ mod ours;
 mod prices;
 #[cfg(rooted)]
 mod roots;
+mod windows;
 
 use oracle::evaluations::counted;
 use oracle::functions::NAMES;
@@ -12,6 +13,7 @@ use oracle::inputs::{self, Inputs, KINDS, Quote, Quotes, Rng};
 use oracle::ladder_inputs::LADDER_KINDS;
 use oracle::price_inputs::PRICE_KINDS;
 use oracle::quote::Outcome;
+use oracle::window_inputs::WINDOW_KINDS;
 use oracle::{DefaultSpecialFn, explicit_black};
 use std::cell::Cell;
 use std::process::exit;
@@ -334,12 +336,15 @@ fn usage() -> ! {
        harness counterexamples            pairs outside its hypotheses that break it
        harness ladders KIND COUNT SEED    ladders until COUNT places were compared; KIND: {CORNERS}, {} or all
        harness ladder-pairs COUNT SEED    scaled and exchanged ladders against each other, place by place
+       harness windows KIND COUNT SEED    COUNT writes to cable windows; KIND: {}, {} or all
        harness-rooted roots COUNT SEED    the roots that ladders take, of COUNT places of each kind
        harness standins COUNT SEED        the requirements' exp, ln, ln_1p beside the platform's; nothing is asked of them
 Exit status: 0 no difference, and every counterexample breaks the law; 1 some, or not; 2 bad usage.",
         KINDS.join(", "),
         PRICE_KINDS.join(", "),
-        LADDER_KINDS.join(", ")
+        LADDER_KINDS.join(", "),
+        WINDOW_KINDS.join(", "),
+        windows::ANY
     );
     exit(2)
 }
@@ -364,6 +369,9 @@ fn main() {
             ladders::ladders(kind, number(&args[2]), number(&args[3]))
         }
         ["ladder-pairs", _, _] => ladders::pairs(number(&args[1]), number(&args[2])),
+        ["windows", kind, _, _] if ["all", windows::ANY].contains(&kind) || WINDOW_KINDS.contains(&kind) => {
+            windows::windows(kind, number(&args[2]), number(&args[3]))
+        }
         #[cfg(rooted)]
         ["roots", _, _] => roots::roots(number(&args[1]), number(&args[2])),
         ["standins", _, _] => {

@@ -112,3 +112,38 @@ pub mod ladders {
         }
     }
 }
+
+pub mod windows {
+    use oracle::window_inputs::WordWrite;
+    use ours::cable_window::window;
+    pub use ours::cable_window::window::Window;
+
+    pub fn zeros() -> Window {
+        Window::zeros()
+    }
+
+    /// No function makes a window of any bytes: it is an array of them and nothing else.
+    pub fn of_bytes(bytes: [u8; 64]) -> Window {
+        unsafe { std::mem::transmute(bytes) }
+    }
+
+    pub fn bytes(window: Window) -> [u8; 64] {
+        window.bytes()
+    }
+
+    /// Writes to a window that is lent; what is handed back, and the bytes after it.
+    pub fn write(window: &mut Window, WordWrite { offset, word }: WordWrite) -> (u32, [u8; 64]) {
+        let number = window::write(window, offset, word);
+        (number, window.bytes())
+    }
+
+    /// The same by value.
+    pub fn written(window: Window, WordWrite { offset, word }: WordWrite) -> (u32, [u8; 64]) {
+        let written = window::written(window, offset, word);
+        (written.number, written.window.bytes())
+    }
+
+    pub fn after_writes(offsets: &[u32], words: &[u32]) -> [u8; 64] {
+        window::after_writes(offsets, words).bytes()
+    }
+}

@@ -1,4 +1,4 @@
-//! What a quote, a price, a ladder and a sheet take of the machine: instructions, stack, text and constants.
+//! What a quote, a price, a ladder, a window and a sheet take of the machine: instructions, stack, text and constants.
 
 use crate::ladder::{self, Ladder, Lent, PLACES};
 use crate::{ours, timing};
@@ -15,12 +15,13 @@ const NEAR_BOUND: usize = 200_000;
 const PAINT: u64 = 0xA5A5_A5A5_A5A5_A5A5;
 const WORDS: usize = 4096;
 
-/// Runs desk quotes or desk ladders of one of the five, for callgrind to count between entry and return.
+/// Runs desk quotes or desk ladders of one of the six, for callgrind to count between entry and return.
 pub fn run(which: &str) {
     match which {
         "ours" => counted_ours(&timing::desk(QUOTES)),
         "rust" => counted_rust(&timing::desk(QUOTES)),
         "platform" => counted_platform(&timing::desk(QUOTES)),
+        "window" => counted_window(&timing::desk(QUOTES)),
         "ladder" => counted_ladder(&ladder::desk_ladders(), &mut Lent::new(PLACES)),
         _ => counted_quotes(&ladder::desk_ladders(), &mut Lent::new(PLACES)),
     }
@@ -42,6 +43,13 @@ extern "C" fn counted_rust(list: &Vec<Quote>) {
 #[unsafe(no_mangle)]
 extern "C" fn counted_platform(list: &Vec<Quote>) {
     list.iter().for_each(|&q| timing::plain(q));
+}
+
+#[inline(never)]
+#[unsafe(no_mangle)]
+extern "C" fn counted_window(list: &Vec<Quote>) {
+    let mut window = [0; 64];
+    list.iter().for_each(|&q| ours::window(&mut window, q));
 }
 
 #[inline(never)]
@@ -132,6 +140,16 @@ fn price_stack(stack: &mut [u64], k: Keyed) -> usize {
     painted(stack, ours::quoter_price as *const () as usize, given)
 }
 
+/// Of the command that solves.
+fn window_stack(stack: &mut [u64], q: Quote) -> usize {
+    let mut window = [0u8; 64];
+    window[8..44].copy_from_slice(&ours::shown(q));
+    let words = [at(window.as_mut_ptr()), 0, 1, 0, 0, 0];
+    let taken = painted(stack, ours::quoter_window_write as *const () as usize, Given { words, figures: [0.0; 4], pushed: &[] });
+    assert_eq!(window[7] % 2, 1, "the quote is solved");
+    taken
+}
+
 /// Of a ladder that has no more places than are lent.
 fn ladder_stack(stack: &mut [u64], l: &Ladder, lent: &mut Lent) -> usize {
     let (mut roots, n) = (u64::MAX, l.strikes.len() as u64);
@@ -171,6 +189,11 @@ fn all_kinds() -> Vec<Quote> {
 fn quotes_stack(list: &[Quote]) -> usize {
     let mut stack = vec![PAINT; WORDS];
     list.iter().map(|&q| quote_stack(&mut stack, q)).max().unwrap()
+}
+
+fn windows_stack(list: &[Quote]) -> usize {
+    let mut stack = vec![PAINT; WORDS];
+    list.iter().map(|&q| window_stack(&mut stack, q)).max().unwrap()
 }
 
 /// Each quote as a ladder of one place; 500 that follow each other as a ladder; desk ladders.
@@ -255,6 +278,7 @@ pub fn table(target: &Path) {
         let found = instructions(which, QUOTES);
         print(&format!("instructions a desk quote, {which} (callgrind)"), found, "valgrind");
     }
+    print("instructions a desk quote through the window (callgrind)", instructions("window", QUOTES), "valgrind");
     let places = PLACES * ladder::LADDERS;
     print("instructions a place, ladder (callgrind)", instructions("ladder", places), "valgrind");
     print("instructions a place, its quote (callgrind)", instructions("quotes", places), "valgrind");
@@ -268,6 +292,7 @@ pub fn table(target: &Path) {
     print_stack("quote", quotes.len(), 4096, quote);
     print_stack("price", PRICES * PRICE_KINDS.len(), 4096, prices_stack());
     print_stack("ladder", ladders.len(), quote + 256, ladders_stack(&ladders));
+    print_stack("window", quotes.len(), quote + 256, windows_stack(&quotes));
     let found = sheet_stack(&target.join("bin/sheet"), &target.join("bench/massif.out"));
     print("stack of program sheet, 1,000 quotes (massif), of 49152", found, "valgrind or target/bin/sheet");
 }

@@ -53,6 +53,26 @@ unsafe extern "C" {
         refusal_count: u64,
         roots: *mut u64,
     ) -> u32;
+    pub fn quoter_window_write(window: *mut u8, offset: u32, word: u32) -> u32;
+}
+
+/// The side and figures of a quote as they stand in a window, from its byte 8 on.
+pub fn shown(q: Quote) -> [u8; 36] {
+    let mut bytes = [0; 36];
+    bytes[..4].copy_from_slice(&q.side.to_be_bytes());
+    let figures = [q.price, q.forward, q.strike, q.time].map(|x| x.to_bits().to_be_bytes());
+    bytes[4..].copy_from_slice(figures.as_flattened());
+    bytes
+}
+
+/// A quote through a window: nine words of side and figures, then the command that solves.
+pub fn window(window: &mut [u8; 64], q: Quote) {
+    let words = shown(q);
+    for (word, offset) in words.chunks(4).zip((8..).step_by(4)) {
+        let word = u32::from_be_bytes(word.try_into().unwrap());
+        unsafe { quoter_window_write(window.as_mut_ptr(), offset, word) };
+    }
+    unsafe { quoter_window_write(window.as_mut_ptr(), 0, 1) };
 }
 
 /// A function of `vectors` by its number.

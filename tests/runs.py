@@ -1,5 +1,5 @@
-"""What tests/sheet, tests/prices and tests/ladders share: runs of a program on inputs whose text is known, and on the oracle's; groups of them;
-the usage."""
+"""What tests/sheet, tests/prices, tests/ladders and tests/windows share: runs of a program on inputs whose text is known, and on the oracle's;
+groups of them; the usage."""
 import os
 import pathlib
 import resource

@@ -1,6 +1,6 @@
 -- What the tests and calls of each function say of its definition, over plain lists and numbers. Assumes nothing.
 use mathlib.Core.Path.{_≡_, refl, sym, ap, _∙_, subst}
-use Prim.Native.Nat.{ℕ, zero, suc, _+_, _*_, _-_, _/_, _%_, _≤_, _<_, _^_}
+use Prim.Native.Nat.{ℕ, zero, suc, _+_, _*_, _-_, _/_, _%_, _≤_, _<_}
 use mathlib.Core.Bool.{Bool, true, false, _&&_, _||_, cond}
 use mathlib.Core.List.{List, [], _∷_}
 use borrow.Author.Tests.{lt-leb, le-leb, eq-eqb, ne-eqb}
@@ -13,7 +13,7 @@ use lib.Ieee.{Float, binary64, toBits}
 use Rattle.explicit_black.specs.Quote.{Reply, answer, refusal, impliedBlackVolatilityInput}
 use Rattle.xdr_sheet.specs.Xdr.{unsigned, double}
 use Rattle.cable_window.specs.Window.{withWord, withHyper, windowReply, withResults, withReply, cleared, solved, commanded}
-use Rattle.cable_window.specs.Window.{zeros, writable, offsetRefusal, afterWrite, afterWrites, writes}
+use Rattle.cable_window.specs.Window.{writable, offsetRefusal, afterWrite, afterWrites, writes}
 use Rattle.cable_window.specs.Laws.Small.{Small, small-reply}
 
 -- ---- words

@@ -10,7 +10,7 @@ use lib.ListN.{length, replicate, length-set}
 use lib.Seq.{lt-length-set, getD-set-same, getD-set-other}
 use Rattle.arithmetic.specs.Laws.Choices.{in-both}
 use Rattle.xdr_sheet.specs.Xdr.{byteAt, word, there, unsigned, hyper}
-use Rattle.cable_window.specs.Window.{withWord, withHyper, withResults}
+use Rattle.cable_window.specs.Window.{withWord, withHyper}
 
 -- ---- lengths
 pub length-with-word : (s : List ℕ) (at w : ℕ) → length (withWord s at w) ≡ length s
@@ -20,10 +20,6 @@ length-with-word s at w = simp length-set
 pub length-with-hyper : (s : List ℕ) (at n : ℕ) → length (withHyper s at n) ≡ length s
 unfolding withHyper
 length-with-hyper s at n = simp length-with-word
-
-pub length-with-results : (s : List ℕ) (status total volatility count : ℕ) → length (withResults s status total volatility count) ≡ length s
-unfolding withResults
-length-with-results s status total volatility count = simp length-with-word
 
 -- ---- zeros read as 0
 zero-byte : (n i : ℕ) → byteAt (replicate n 0) i ≡ 0

@@ -14,7 +14,8 @@ use Rattle.arithmetic.specs.Laws.Choices.{in-both, by-test}
 use Rattle.explicit_black.specs.Quote.{Reply, answer, refusal}
 use Rattle.explicit_black.specs.Laws.Quote.{FiguresAreNumbers}
 use Rattle.xdr_sheet.specs.Xdr.{unsigned, hyper, double}
-use Rattle.cable_window.specs.Window.{windowBytes, commandAt, statusAt, totalAt, volatilityAt, countAt, zeros, writable, bit, windowReply}
+use Rattle.xdr_sheet.specs.Sheet.{replyFrom}
+use Rattle.cable_window.specs.Window.{windowBytes, commandAt, statusAt, sideAt, totalAt, volatilityAt, countAt, zeros, writable, bit, windowReply}
 use Rattle.cable_window.specs.Window.{withoutInterrupt, offsetRefusal, afterWrite, Write, afterWrites}
 use Rattle.cable_window.specs.Host.{AreWords, isFigure, lastWord, replyAfter, commands, anySolves, anyClears}
 use Rattle.cable_window.specs.Host.{Results, resultsIn, noResults, resultsOf, interruptCleared, StatusBits, LastSolve}
@@ -91,6 +92,11 @@ unfolding replyAfter
 reply-last l a =
     reply-by (afterWrites zeros l) (length-after zeros l)
     ∙ same-reply (unsigned (afterWrites zeros l)) (lastWord 0 l) (λ at f. figure-last zeros l at refl a f ∙ rw (read-zeros windowBytes at))
+
+-- its side and doubles stand in the order of a sheet's quote (REQUIREMENTS 11.1)
+pub sheet-order : (s : List ℕ) → windowReply s ≡ replyFrom s sideAt
+unfolding windowReply replyFrom
+sheet-order s = refl
 
 -- ---- the status, bit by bit
 

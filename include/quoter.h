@@ -120,18 +120,21 @@ uint32_t quoter_sheet_quote(const uint8_t *sheet, uint64_t length, uint64_t inde
 uint32_t quoter_sheet_line(const uint8_t *sheet, uint64_t length, uint32_t *finite, uint32_t *infinite, uint32_t *refusals,
                            uint8_t *text, uint64_t room, uint64_t *count);
 
-/* A word written to the cable window (section 14.6): 64 bytes, 16 words of XDR, the highest byte first.
-      0  command: bit 1 clears the interrupt, then bit 0 solves; its other bits do nothing, and it reads as 0
-      4  status: bit 0 done, bit 1 refused, bit 2 interrupt, bits 8 to 15 the number of the refusal or 0
+/* A word written to the cable window (section 14.6), which shows a quote and the results of its last solve in 64 bytes: 16 words of XDR, in the
+   window the highest byte first. `word` is a number, in the machine's own byte order. Bit 0 of a word is the least significant.
+      0  command. Bit 1 clears the interrupt, then bit 0 solves; its other bits do nothing. It reads as 0 after every command
+      4  status. Bit 0 done, bit 1 refused, bit 2 interrupt, bits 8 to 15 the number of the refusal or 0. A solve sets all of them, and the others to 0;
+         a clear changes bit 2 alone
       8  side
-     12  price, 20 forward, 28 strike, 36 time: doubles in two words each, the high one first
+     12  price, 20 forward, 28 strike, 36 time: doubles in two words each, the high one first, written in any order
      44  total volatility, 52 volatility: doubles, 0 where the last solve was refused
-     60  the number of evaluations
-   Start from 64 zeros. Write the figures, in any order, write 1 at 0, and read status and results, which stay until the next solve; or hold other
-   64 bytes, and the rules are the same. Bit 0 of a word is the least significant.
-   Returns 0 for an offset of 0 or 8, 12, .. 40: the word was written there, or at 0 carried out. A solve is quoter_quote of the window's side and
-   doubles, any bits, and stores an answer by its bits; no call reads or changes a byte outside the 64, and a NaN pattern stays as it was written.
-   Otherwise returns 14: the window is as it was. */
+     60  the number of evaluations of the last solve
+   Start from 64 zeros; they may also be any other bytes. Write side and figures, write 1 at 0, and read. A solve is quoter_quote of the window's side
+   and doubles, of any bits, and is finished when the call returns; it stores an answer by its bits. Its results stay until the next solve: bit 0 is
+   still 1 after another quote was written. A NaN pattern stays as it was written.
+   Returns 0 for the offsets 0, 8, 12, .. 40: the word was written there, or at 0 carried out, and what it does not name is as it was.
+   Returns 14 for any other offset: nothing of the window was read or written.
+   One call at a time for a window: until it returns nobody else, an interrupt handler neither, reads or writes the 64 bytes. */
 #define QUOTER_WINDOW_BYTES 64
 uint32_t quoter_window_write(uint8_t window[QUOTER_WINDOW_BYTES], uint32_t offset, uint32_t word);
 

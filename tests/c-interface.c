@@ -779,6 +779,20 @@ static void known_outcomes(void)
     }
 }
 
+/* Each straight after each: nothing of the one before stays. */
+static void known_successions(void)
+{
+    for (int i = 0; i < PLACES(OUTCOMES); i++) {
+        for (int j = 0; j < PLACES(OUTCOMES); j++) {
+            struct host h = filled(0);
+            set("figures of a first outcome", &h, &OUTCOMES[i], 0);
+            solve("first outcome", &h, &OUTCOMES[i], SOLVE);
+            set("figures of a second outcome", &h, &OUTCOMES[j], 0);
+            solve("second outcome", &h, &OUTCOMES[j], SOLVE);
+        }
+    }
+}
+
 /* Patterns of NaN, quiet and signalling, and the infinities, in each double, written in halves and in either order: they stay, also where a
    solve reads them. */
 static void known_nans(void)
@@ -799,21 +813,25 @@ static void known_nans(void)
     }
 }
 
-/* Every offset up to 80 and some beyond, with a word that would clear and solve at 0: of a window that was solved and cleared, and of any bytes. */
+/* Every offset up to 80 and some beyond, with a word that would clear and solve at 0, of a window that was solved and cleared and of any bytes;
+   and with one that would clear, of a window with its interrupt. */
 static void known_offsets(void)
 {
     static const uint32_t large[] = {256, 264, 0x10000, 0x10008, 0x7FFFFFFC, 0x80000000, 0x80000008, 0xFFFFFFC0, 0xFFFFFFC8, 0xFFFFFFFC, 0xFFFFFFFF};
-    for (int kind = 0; kind < 2; kind++) {
-        struct host before = filled(kind ? 0xFF : 0);
+    for (int kind = 0; kind < 3; kind++) {
+        struct host before = filled(kind == 1 ? 0xFF : 0);
+        uint32_t low = kind == 2 ? CLEAR : CLEAR | SOLVE;
         set("figures before the offsets", &before, &CALL, 0);
-        if (kind == 0) {
+        if (kind != 1)
             solve("call before the offsets", &before, &CALL, SOLVE);
+        if (kind == 0)
             command("cleared before the offsets", &before, CLEAR);
-        }
         for (uint32_t i = 0; i <= 80 + PLACES(large); i++) {
             struct host h = before;
-            uint32_t offset = i <= 80 ? i : large[i - 81], w = 0x5A000003 | (i << 8);
-            if (offset == 0)
+            uint32_t offset = i <= 80 ? i : large[i - 81], w = 0x5A000000 | (i << 8) | low;
+            if (offset == 0 && kind == 2)
+                command("offset 0, cleared", &h, w);
+            else if (offset == 0)
                 solve("offset 0", &h, &CALL, w);
             else if (offset >= 8 && offset <= 40 && offset % 4 == 0)
                 figure_word("offset of a figure", &h, offset, w);
@@ -871,6 +889,7 @@ static int known(void)
     known_walks();
     known_host();
     known_outcomes();
+    known_successions();
     known_nans();
     known_offsets();
     known_commands();

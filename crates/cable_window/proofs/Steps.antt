@@ -14,7 +14,7 @@ use Rattle.explicit_black.specs.Quote.{Reply, answer, refusal, impliedBlackVola
 use Rattle.xdr_sheet.specs.Xdr.{unsigned, double}
 use Rattle.cable_window.specs.Window.{withWord, withHyper, windowReply, withResults, withReply, cleared, solved, commanded}
 use Rattle.cable_window.specs.Window.{writable, offsetRefusal, afterWrite, afterWrites, writes}
-use Rattle.cable_window.specs.Laws.Small.{Small, small-reply}
+use Rattle.cable_window.specs.Laws.Fits.{ReplyFits, reply-fits}
 
 -- ---- words
 pub hyper-put : (s : List ℕ) (at n : ℕ) {a b : List ℕ} → a ≡ withWord s at (n / 4294967296) → b ≡ withWord a (at + 4) (n % 4294967296)
@@ -35,8 +35,8 @@ pub reply-read : (s : List ℕ) (side : ℕ) (p f k t : Float) {r : Reply}
 unfolding windowReply
 reply-read s side p f k t a b c d e h = h ∙ rw (a, b, c, d, e)
 
-pub reply-small : (s : List ℕ) {r : Reply} → r ≡ windowReply s → Small r
-reply-small s e = subst Small (sym e) (small-reply s)
+pub found-fits : (s : List ℕ) {r : Reply} → r ≡ windowReply s → ReplyFits r
+found-fits s e = subst ReplyFits (sym e) (reply-fits s)
 
 -- ---- a command: its bits are 0 or 1
 bit-off : (b : ℕ) → b ≡ 0 → eqb b 1 ≡ false
@@ -84,24 +84,24 @@ commanded-is s command p q r = r ∙ rw (q, p)
 -- ---- an offset
 pub off-words : (offset : ℕ) → (offset % 4 ≡ 0 → ⊥) → 14 ≡ offsetRefusal offset
 unfolding offsetRefusal
-off-words offset h = rw (ne-eqb (offset % 4) 0 h)
+off-words offset h = rw (ne-eqb offset 0 (λ z. h (omega (arith, z))), ne-eqb (offset % 4) 0 h)
 
 module _ (offset : ℕ) (whole : offset % 4 ≡ 0) where
   pub at-command : offset ≡ 0 → 0 ≡ offsetRefusal offset
   unfolding offsetRefusal
-  at-command z = rw (eq-eqb (offset % 4) 0 whole, eq-eqb offset 0 z)
+  at-command z = rw (eq-eqb offset 0 z)
 
   pub at-status : (offset ≡ 0 → ⊥) → offset < 8 → 14 ≡ offsetRefusal offset
   unfolding offsetRefusal
-  at-status z h = rw (eq-eqb (offset % 4) 0 whole, ne-eqb offset 0 z, lt-leb 8 offset h)
+  at-status z h = rw (ne-eqb offset 0 z, eq-eqb (offset % 4) 0 whole, lt-leb 8 offset h)
 
-  pub past-figures : (offset ≡ 0 → ⊥) → 8 ≤ offset → 40 < offset → 14 ≡ offsetRefusal offset
+  pub past-quote-words : (offset ≡ 0 → ⊥) → 8 ≤ offset → 40 < offset → 14 ≡ offsetRefusal offset
   unfolding offsetRefusal
-  past-figures z g h = rw (eq-eqb (offset % 4) 0 whole, ne-eqb offset 0 z, le-leb 8 offset g, lt-leb offset 40 h)
+  past-quote-words z g h = rw (ne-eqb offset 0 z, eq-eqb (offset % 4) 0 whole, le-leb 8 offset g, lt-leb offset 40 h)
 
-  pub at-figure : (offset ≡ 0 → ⊥) → 8 ≤ offset → offset ≤ 40 → 0 ≡ offsetRefusal offset
+  pub at-quote-word : (offset ≡ 0 → ⊥) → 8 ≤ offset → offset ≤ 40 → 0 ≡ offsetRefusal offset
   unfolding offsetRefusal
-  at-figure z g h = rw (eq-eqb (offset % 4) 0 whole, ne-eqb offset 0 z, le-leb 8 offset g, le-leb offset 40 h)
+  at-quote-word z g h = rw (ne-eqb offset 0 z, eq-eqb (offset % 4) 0 whole, le-leb 8 offset g, le-leb offset 40 h)
 
 refused : (b : Bool) {n : ℕ} → n ≡ cond b 0 14 → (n ≡ 0 → ⊥) → b ≡ false
 refused true e h = absurd (h e)
@@ -124,21 +124,21 @@ module _ (s : List ℕ) (offset word : ℕ) {n : ℕ} (e : n ≡ offsetRefusal o
   unfolding afterWrite offsetRefusal
   write-command h z p = rw (taken (writable offset) e h, eq-eqb offset 0 z) p
 
-  pub write-figure : n ≡ 0 → (offset ≡ 0 → ⊥) → {a : List ℕ} → a ≡ withWord s offset word → a ≡ afterWrite s offset word
+  pub write-quote-word : n ≡ 0 → (offset ≡ 0 → ⊥) → {a : List ℕ} → a ≡ withWord s offset word → a ≡ afterWrite s offset word
   unfolding afterWrite offsetRefusal
-  write-figure h z p = rw (taken (writable offset) e h, ne-eqb offset 0 z) p
+  write-quote-word h z p = rw (taken (writable offset) e h, ne-eqb offset 0 z) p
 
-  pub figure-within : n ≡ 0 → offset ≤ 40
+  pub quote-word-within : n ≡ 0 → offset ≤ 40
   unfolding offsetRefusal
-  figure-within h =
-      go (eqb (offset % 4) 0) (eqb offset 0) (leb 8 offset) (leb offset 40) (eqb→eq offset 0) (leb→le offset 40) (taken (writable offset) e h)
+  quote-word-within h =
+      go (eqb offset 0) (eqb (offset % 4) 0) (leb 8 offset) (leb offset 40) (eqb→eq offset 0) (leb→le offset 40) (taken (writable offset) e h)
     where
-      go : (a z b d : Bool) → (T z → offset ≡ 0) → (T d → offset ≤ 40) → (a && (z || (b && d))) ≡ true → offset ≤ 40
-      go true true b d f g p = omega (arith, f tt)
-      go true false true true f g p = g tt
-      go true false true false f g p = absurd (subst T (sym p) tt)
-      go true false false d f g p = absurd (subst T (sym p) tt)
-      go false z b d f g p = absurd (subst T (sym p) tt)
+      go : (z a b d : Bool) → (T z → offset ≡ 0) → (T d → offset ≤ 40) → (z || (a && (b && d))) ≡ true → offset ≤ 40
+      go true a b d f g p = omega (arith, f tt)
+      go false true true true f g p = g tt
+      go false true true false f g p = absurd (subst T (sym p) tt)
+      go false true false d f g p = absurd (subst T (sym p) tt)
+      go false false b d f g p = absurd (subst T (sym p) tt)
 
 -- ---- a list of writes: none is left at the end of either slice, and one is taken at each turn
 fewer : (os ws : List ℕ) → (length (writes os ws) ≤ length os) × (length (writes os ws) ≤ length ws)

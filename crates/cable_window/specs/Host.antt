@@ -3,30 +3,29 @@ use mathlib.Core.Path.{_≡_}
 use Prim.Native.Nat.{ℕ, _+_, _*_, _/_, _%_, _<_, _^_}
 use mathlib.Core.Bool.{Bool, false, cond, _&&_, _||_}
 use mathlib.Core.List.{List, [], _∷_, _++_}
-use lib.Dec.{eqb, leb}
+use lib.Dec.{eqb}
 use lib.Ieee.{Float, binary64, ofBits, toBits}
 use Rattle.explicit_black.specs.Quote.{Reply, answer, refusal, impliedBlackVolatilityInput}
-use Rattle.xdr_sheet.specs.Xdr.{unsigned, hyper}
+use Rattle.xdr_sheet.specs.Xdr.{byteAt, unsigned, hyper}
 use Rattle.cable_window.specs.Window.{commandAt, statusAt, sideAt, priceAt, forwardAt, strikeAt, timeAt, totalAt, volatilityAt, countAt}
 use Rattle.cable_window.specs.Window.{Write, bit, solvedStatus, withoutInterrupt}
 
--- each word that is written has 32 bits
+-- each byte of a window has 8 bits, and each word that is written has 32
+pub record AreBytes (s : List ℕ) : Type 0 where
+  pub fit : (i : ℕ) → byteAt s i < 2 ^ 8
+
 abbrev pub AreWords : List Write → Type 0
 AreWords [] = Unit {0}
 AreWords (w ∷ rest) = (w .word < 2 ^ 32) × AreWords rest
 
--- ---- figures
-
--- where the words of side and figures stand
-abbrev pub isFigure : ℕ → Bool
-isFigure offset = eqb (offset % 4) 0 && (leb 8 offset && leb offset 40)
+-- ---- the words of the quote
 
 -- the last word that is written at an offset, and `old` where none is
 abbrev pub lastWord : ℕ → List Write → ℕ → ℕ
 lastWord old [] at = old
 lastWord old (w ∷ rest) at = lastWord (cond (eqb (w .offset) at) (w .word) old) rest at
 
--- the double of the last two words that are written for it
+-- the double of the last word that is written at each of its two offsets
 abbrev pub lastDouble : List Write → ℕ → Float
 lastDouble writes at = ofBits binary64 (lastWord 0 writes at * 2 ^ 32 + lastWord 0 writes (at + 4))
 

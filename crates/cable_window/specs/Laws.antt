@@ -1,6 +1,6 @@
--- Facts about the definitions, each proved: Small, how large the parts of a window's reply are; Bytes, words in bytes; Writes, what one write does;
+-- Facts about the definitions, each proved: Fits, how large the parts of a window's reply are; Bytes, words in bytes; Writes, what one write does;
 -- Host, the promises to a host.
-pub mod Small
+pub mod Fits
 pub mod Bytes
 pub mod Writes
 pub mod Host

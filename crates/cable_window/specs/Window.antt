@@ -45,9 +45,13 @@ countAt = 60
 abbrev pub zeros : List ℕ
 zeros = replicate windowBytes 0
 
--- the words at 0 and at 8 to 40 are writable
+-- the words of the quote, its side and its figures, are those at 8 to 40
+abbrev pub isQuoteWord : ℕ → Bool
+isQuoteWord offset = eqb (offset % 4) 0 && (leb 8 offset && leb offset 40)
+
+-- they are writable, and so is the command
 abbrev pub writable : ℕ → Bool
-writable offset = eqb (offset % 4) 0 && (eqb offset commandAt || (leb 8 offset && leb offset 40))
+writable offset = eqb offset commandAt || isQuoteWord offset
 
 -- ---- words and bits
 

@@ -35,10 +35,13 @@ const VOLATILITY: usize = 52;
 
 const COUNT: usize = 60;
 
-// The writable words but the command.
-const FIRST_FIGURE: u32 = 8;
+// Where the words of the quote, its side and its figures, begin and end.
+const FIRST_QUOTE_WORD: u32 = 8;
 
-const LAST_FIGURE: u32 = 40;
+const LAST_QUOTE_WORD: u32 = 40;
+
+// The number of the refusal of an offset.
+const UNWRITABLE: u32 = 14;
 
 // The bits of a status; a refusal's number is in bits 8 to 15.
 const DONE: u32 = 1;
@@ -53,7 +56,8 @@ const ANSWERED_STATUS: u32 = DONE + INTERRUPT;
 
 const REFUSED_STATUS: u32 = DONE + REFUSED + INTERRUPT;
 
-// Its field is private, so that no other code makes a window but by `zeros`, and none changes one but by `write`.
+// Its field is private: no other code makes a window of bytes of its own, or changes some of its bytes. So in Rattle a window is one that
+// writes from zeros leave; C may lend any 64 bytes.
 #[repr(C)]
 pub struct Window {
     bytes: [u8; WINDOW_BYTES],
@@ -170,20 +174,24 @@ impl Window {
     }
 }
 
-// 14 for an offset that is no multiple of 4 or not writable, and else 0.
+// The refusal of an offset that is no multiple of 4, or not writable, and else 0.
 fn offset_refusal(offset: u32) -> u32
     ensures { λ r. ⌜ r ≡ offsetRefusal offset ⌝ }
 {
     if offset % 4 != 0 {
-        return 14;
+        return UNWRITABLE;
     }
     if offset == 0 {
         return 0;
     }
-    if offset < FIRST_FIGURE {
-        return 14;
+    if offset < FIRST_QUOTE_WORD {
+        return UNWRITABLE;
     }
-    if offset > LAST_FIGURE { 14 } else { 0 }
+    if offset > LAST_QUOTE_WORD {
+        UNWRITABLE
+    } else {
+        0
+    }
 }
 
 // The window after a write, by value.
@@ -199,12 +207,15 @@ fn after_write(window: Window, offset: u32, word: u32) -> Window
     window.with_word(offset as usize, word)
 }
 
-// A write to a window that is lent: 0, or 14 with the window as before.
+// A write to a window that is lent: 0, or 14. Where it is 14 the window is not touched.
 pub fn write(window: &mut Window, offset: u32, word: u32) -> u32
     ensures { λ r. ⌜ (r ≡ offsetRefusal offset) × (now (window .exit) .bytes ≡ afterWrite (now (window .entry) .bytes) offset word) ⌝ }
 {
-    *window = after_write(*window, offset, word);
-    offset_refusal(offset)
+    let number = offset_refusal(offset);
+    if number == 0 {
+        *window = after_write(*window, offset, word);
+    }
+    number
 }
 
 // A write to the caller's own copy, which is lent for it.

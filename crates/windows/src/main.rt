@@ -92,6 +92,9 @@ fn answer_list() -> bool {
         return false;
     }
     let count = unsigned(&head, 0) as usize;
+    if count > ROOM {
+        return false;
+    }
     let mut offsets = [0u32; ROOM];
     let mut words = [0u32; ROOM];
     if !read_writes(&mut offsets, &mut words, count) {

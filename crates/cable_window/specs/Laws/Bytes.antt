@@ -1,16 +1,18 @@
 -- Words in bytes: what is read after a word or a number of 64 bits is written, at the same place and elsewhere. Assumes nothing.
 use mathlib.Core.Path.{_≡_, refl, sym, _∙_}
 use mathlib.Core.Logic.{_≢_}
-use mathlib.Core.List.{List}
+use mathlib.Core.List.{List, [], _∷_}
 use Prim.Native.Nat.{ℕ, zero, suc, _+_, _*_, _-_, _/_, _%_, _≤_, _<_, _^_}
 use native.Mathlib.Nat.{div-div-eq-div-mul}
 use native.Mathlib.Omega.{arith}
 use borrow.Author.Tests.{le-leb}
-use lib.ListN.{length, replicate, length-set}
+use lib.Dec.{lit<}
+use lib.ListN.{length, set, replicate, length-set}
 use lib.Seq.{lt-length-set, getD-set-same, getD-set-other}
 use Rattle.arithmetic.specs.Laws.Choices.{in-both}
 use Rattle.xdr_sheet.specs.Xdr.{byteAt, word, there, unsigned, hyper}
 use Rattle.cable_window.specs.Window.{withWord, withHyper}
+use Rattle.cable_window.specs.Host.{AreBytes}
 
 -- ---- lengths
 pub length-with-word : (s : List ℕ) (at w : ℕ) → length (withWord s at w) ≡ length s
@@ -31,6 +33,31 @@ pub read-zeros : (n at : ℕ) → unsigned (replicate n 0) at ≡ 0
 unfolding unsigned
 read-zeros n at =
     in-both (λ (w : ℕ). w ≡ 0) (there (replicate n 0) at 4) (rw (zero-byte n at, zero-byte n (at + 1), zero-byte n (at + 2), zero-byte n (at + 3))) refl
+
+-- ---- bytes of 8 bits: a word then has 32, and is one half of a number of 64 bits
+pub zero-bytes : (n : ℕ) → AreBytes (replicate n 0)
+zero-bytes n = record { fit = λ i. rw (zero-byte n i) (lit< tt) }
+
+set-byte : (s : List ℕ) (j b i : ℕ) → b < 2 ^ 8 → byteAt s i < 2 ^ 8 → byteAt (set s j b) i < 2 ^ 8
+set-byte [] j b i h g = g
+set-byte (x ∷ s) zero b zero h g = h
+set-byte (x ∷ s) zero b (suc i) h g = g
+set-byte (x ∷ s) (suc j) b zero h g = g
+set-byte (x ∷ s) (suc j) b (suc i) h g = set-byte s j b i h g
+
+set-low : (s : List ℕ) (j n : ℕ) → AreBytes s → AreBytes (set s j (n % 2 ^ 8))
+set-low s j n k = record { fit = λ i. set-byte s j (n % 2 ^ 8) i (omega arith) (k .fit i) }
+
+pub bytes-with-word : (s : List ℕ) (at w : ℕ) → AreBytes s → AreBytes (withWord s at w)
+unfolding withWord
+bytes-with-word s at w k =
+    set-low _ (at + 3) w (set-low _ (at + 2) (w / 2 ^ 8) (set-low _ (at + 1) (w / 2 ^ 16) (set-low s at (w / 2 ^ 24) k)))
+
+pub word-below : (s : List ℕ) (at : ℕ) → AreBytes s → unsigned s at < 2 ^ 32
+unfolding unsigned word
+word-below s at k =
+    let b = k .fit in
+    in-both (λ (w : ℕ). w < 2 ^ 32) (there s at 4) (omega (arith, b at, b (at + 1), b (at + 2), b (at + 3))) (lit< tt)
 
 -- ---- elsewhere: what is read is as before
 
@@ -101,6 +128,13 @@ read-same s at w h g = rw (length-with-word s at w, le-leb (at + 4) (length s) h
 pub hyper-words : (s : List ℕ) (at : ℕ) → at + 8 ≤ length s → hyper s at ≡ unsigned s at * 2 ^ 32 + unsigned s (at + 4)
 unfolding hyper unsigned
 hyper-words s at h = rw (le-leb (at + 8) (length s) h, le-leb (at + 4) (length s) (omega arith), le-leb (at + 4 + 4) (length s) (omega arith))
+
+pub hyper-halves : (s : List ℕ) (at : ℕ) → at + 8 ≤ length s → AreBytes s
+    → (unsigned s at ≡ hyper s at / 2 ^ 32) × (unsigned s (at + 4) ≡ hyper s at % 2 ^ 32)
+hyper-halves s at h k =
+    let e = hyper-words s at h in
+    let low = word-below s (at + 4) k in
+    (omega arith, omega arith)
 
 pub hyper-same : (s : List ℕ) (at n : ℕ) → at + 8 ≤ length s → n < 2 ^ 64 → hyper (withHyper s at n) at ≡ n
 hyper-same s at n h g =

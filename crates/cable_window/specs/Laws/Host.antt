@@ -1,13 +1,13 @@
 -- The promises to a host (REQUIREMENTS 14.6): what it reads after a write, and after every list of writes. Assumes nothing.
-use mathlib.Core.Path.{_≡_, refl, ap, _∙_, subst}
+use mathlib.Core.Path.{_≡_, refl, sym, ap, _∙_, subst}
 use mathlib.Core.Logic.{_⊎_, inl, inr}
 use mathlib.Core.List.{List, [], _∷_, _++_}
 use mathlib.Core.Bool.{Bool, true, false, cond, _&&_, _||_, true≢false}
-use Prim.Native.Nat.{ℕ, _/_, _%_, _<_, _^_}
+use Prim.Native.Nat.{ℕ, suc, _+_, _/_, _%_, _≤_, _<_, _^_}
 use native.Mathlib.Omega.{arith}
 use borrow.Author.Tests.{eqb-true}
 use lib.Dec.{T, eqb, lit<}
-use lib.ListN.{length}
+use lib.ListN.{length, getD}
 use lib.Ieee.{Float, binary64, ofBits}
 use lib.Ieee.Bits.{ofBits-toBits}
 use Rattle.arithmetic.specs.Laws.Choices.{in-both, by-test}
@@ -15,20 +15,38 @@ use Rattle.explicit_black.specs.Quote.{Reply, answer, refusal}
 use Rattle.explicit_black.specs.Laws.Quote.{FiguresAreNumbers}
 use Rattle.xdr_sheet.specs.Xdr.{unsigned, hyper, double}
 use Rattle.xdr_sheet.specs.Sheet.{replyFrom}
-use Rattle.cable_window.specs.Window.{windowBytes, commandAt, statusAt, sideAt, totalAt, volatilityAt, countAt, zeros, writable, bit, windowReply}
-use Rattle.cable_window.specs.Window.{withoutInterrupt, offsetRefusal, afterWrite, Write, afterWrites}
-use Rattle.cable_window.specs.Host.{AreWords, isFigure, lastWord, replyAfter, commands, anySolves, anyClears}
+use Rattle.cable_window.specs.Window.{windowBytes, commandAt, statusAt, sideAt, totalAt, volatilityAt, countAt, zeros, isQuoteWord, writable}
+use Rattle.cable_window.specs.Window.{bit, windowReply, withoutInterrupt, offsetRefusal, afterWrite, Write, afterWrites, writes}
+use Rattle.cable_window.specs.Host.{AreBytes, AreWords, lastWord, replyAfter, commands, anySolves, anyClears}
 use Rattle.cable_window.specs.Host.{Results, resultsIn, noResults, resultsOf, interruptCleared, StatusBits, LastSolve}
-use Rattle.cable_window.specs.Laws.Small.{Small, reply-numbers}
-use Rattle.cable_window.specs.Laws.Bytes.{read-zeros}
-use Rattle.cable_window.specs.Laws.Writes.{length-write, commanded-zero, zero-write, figure-write, same-reply, reply-by, results-fit, solve-results}
-use Rattle.cable_window.specs.Laws.Writes.{kept-write}
+use Rattle.cable_window.specs.Laws.Fits.{ReplyFits, reply-fits, reply-numbers}
+use Rattle.cable_window.specs.Laws.Bytes.{read-zeros, zero-bytes, hyper-halves}
+use Rattle.cable_window.specs.Laws.Writes.{length-write, commanded-zero, zero-write, quote-word-write, same-reply, reply-by, results-fit, solve-results}
+use Rattle.cable_window.specs.Laws.Writes.{bytes-write, kept-write}
 
 -- ---- a window keeps its length
 pub length-after : (s : List ℕ) (l : List Write) → length (afterWrites s l) ≡ length s
 unfolding afterWrites
 length-after s [] = refl
 length-after s (w ∷ rest) = length-after (afterWrite s (w .offset) (w .word)) rest ∙ length-write s (w .offset) (w .word)
+
+-- ---- its bytes keep to 8 bits, so that a result's two words are the halves of its number
+bytes-after : (s : List ℕ) (l : List Write) → AreBytes s → AreBytes (afterWrites s l)
+unfolding afterWrites
+bytes-after s [] k = k
+bytes-after s (w ∷ rest) k = bytes-after (afterWrite s (w .offset) (w .word)) rest (bytes-write s (w .offset) (w .word) k)
+
+pub halves-after : (l : List Write) (at : ℕ) → at + 8 ≤ windowBytes
+    → (unsigned (afterWrites zeros l) at ≡ hyper (afterWrites zeros l) at / 2 ^ 32)
+    × (unsigned (afterWrites zeros l) (at + 4) ≡ hyper (afterWrites zeros l) at % 2 ^ 32)
+halves-after l at h =
+    hyper-halves (afterWrites zeros l) at (omega (arith, length-after zeros l)) (bytes-after zeros l (zero-bytes windowBytes))
+
+-- ---- the words that a slice holds are words
+pub writes-words : (os ws : List ℕ) → ((i : ℕ) → getD ws i 0 < 2 ^ 32) → AreWords (writes os ws)
+writes-words [] ws h = tt
+writes-words (o ∷ os) [] h = tt
+writes-words (o ∷ os) (w ∷ ws) h = (h 0, writes-words os ws (λ i. h (suc i)))
 
 -- ---- an offset that is refused
 
@@ -78,20 +96,20 @@ other-bits s c = rw (low, next)
 -- ---- side and figures
 
 -- each word of them reads as it was last written
-pub figure-last : (s : List ℕ) (l : List Write) (at : ℕ) → length s ≡ windowBytes → AreWords l → T (isFigure at)
+pub quote-word-last : (s : List ℕ) (l : List Write) (at : ℕ) → length s ≡ windowBytes → AreWords l → T (isQuoteWord at)
     → unsigned (afterWrites s l) at ≡ lastWord (unsigned s at) l at
 unfolding afterWrites
-figure-last s [] at h a f = refl
-figure-last s (w ∷ rest) at h a f =
-    figure-last (afterWrite s (w .offset) (w .word)) rest at (length-write s (w .offset) (w .word) ∙ h) (a .1) f
-    ∙ ap (λ n. lastWord n rest at) (figure-write s at f (w .offset) (w .word) h (a .0))
+quote-word-last s [] at h a f = refl
+quote-word-last s (w ∷ rest) at h a f =
+    quote-word-last (afterWrite s (w .offset) (w .word)) rest at (length-write s (w .offset) (w .word) ∙ h) (a .1) f
+    ∙ ap (λ n. lastWord n rest at) (quote-word-write s at f (w .offset) (w .word) h (a .0))
 
 -- so what a solve answers is the quote that was last written
 pub reply-last : (l : List Write) → AreWords l → windowReply (afterWrites zeros l) ≡ replyAfter l
 unfolding replyAfter
 reply-last l a =
     reply-by (afterWrites zeros l) (length-after zeros l)
-    ∙ same-reply (unsigned (afterWrites zeros l)) (lastWord 0 l) (λ at f. figure-last zeros l at refl a f ∙ rw (read-zeros windowBytes at))
+    ∙ same-reply (unsigned (afterWrites zeros l)) (lastWord 0 l) (λ at f. quote-word-last zeros l at refl a f ∙ rw (read-zeros windowBytes at))
 
 -- its side and doubles stand in the order of a sheet's quote (REQUIREMENTS 11.1)
 pub sheet-order : (s : List ℕ) → windowReply s ≡ replyFrom s sideAt
@@ -100,10 +118,15 @@ sheet-order s = refl
 
 -- ---- the status, bit by bit
 
--- as a solve sets it
-pub status-bits : (r : Reply) → Small r → StatusBits (resultsOf r .status) r
+status-bits : (r : Reply) → ReplyFits r → StatusBits (resultsOf r .status) r
 status-bits (answer total volatility count) h = omega arith
 status-bits (refusal number count) h = omega (arith, h .0)
+
+-- as it reads after a solve, of any window
+pub solved-status : (s : List ℕ) (c : ℕ) → length s ≡ windowBytes → bit 0 c ≡ 1
+    → StatusBits (unsigned (afterWrite s commandAt c) statusAt) (windowReply s)
+solved-status s c l e =
+    subst (λ n. StatusBits n (windowReply s)) (sym (ap (λ r. r .status) (solve-results s c l e))) (status-bits (windowReply s) (reply-fits s))
 
 -- cleared: bit 2 is 0, the bits below it and above it are as before
 pub cleared-bits : (s : ℕ) → (bit 2 (withoutInterrupt s) ≡ 0) × (withoutInterrupt s % 2 ^ 2 ≡ s % 2 ^ 2) × (withoutInterrupt s / 2 ^ 3 ≡ s / 2 ^ 3)

@@ -2,11 +2,11 @@
 use mathlib.Core.Path.{_≡_, refl, sym, ap, _∙_}
 use mathlib.Core.Logic.{_≢_}
 use mathlib.Core.List.{List}
-use mathlib.Core.Bool.{Bool, true, false, cond, _&&_, _||_, true≢false}
+use mathlib.Core.Bool.{Bool, true, false, cond, _||_, true≢false}
 use Prim.Native.Nat.{ℕ, _+_, _*_, _-_, _%_, _≤_, _<_, _^_}
 use native.Mathlib.Omega.{arith}
 use borrow.Author.Tests.{eqb-true, eqb-false, ne-eqb}
-use lib.Dec.{T, eqb, leb, eqb→eq, leb→le, lit<, lit≤}
+use lib.Dec.{T, eqb, eqb→eq, leb→le, lit<, lit≤}
 use lib.ListN.{length}
 use lib.Ieee.{Float, binary64, ofBits}
 use lib.Ieee.Bits.{toBits-lt}
@@ -16,25 +16,24 @@ use Rattle.explicit_black.specs.Quote.{Reply, answer, refusal, impliedBlackVola
 use Rattle.explicit_black.specs.Laws.Quote.{FiguresAreNumbers}
 use Rattle.xdr_sheet.specs.Xdr.{unsigned, double}
 use Rattle.cable_window.specs.Window.{windowBytes, commandAt, statusAt, sideAt, priceAt, forwardAt, strikeAt, timeAt, totalAt, volatilityAt, countAt}
-use Rattle.cable_window.specs.Window.{writable, bit, withWord, withHyper, windowReply, withResults, withReply, cleared, solved, commanded}
+use Rattle.cable_window.specs.Window.{isQuoteWord, writable, bit, withWord, withHyper, windowReply, withResults, withReply, cleared, solved, commanded}
 use Rattle.cable_window.specs.Window.{withoutInterrupt, afterWrite, Write}
-use Rattle.cable_window.specs.Host.{isFigure, commands, Results, resultsIn, resultsOf, interruptCleared}
-use Rattle.cable_window.specs.Laws.Small.{Small, small-reply, reply-numbers}
-use Rattle.cable_window.specs.Laws.Bytes.{length-with-word, length-with-hyper, Apart, read-same, read-other, read-past-hyper}
+use Rattle.cable_window.specs.Host.{AreBytes, commands, Results, resultsIn, resultsOf, interruptCleared}
+use Rattle.cable_window.specs.Laws.Fits.{ReplyFits, reply-fits, reply-numbers}
+use Rattle.cable_window.specs.Laws.Bytes.{bytes-with-word, length-with-word, length-with-hyper, Apart, read-same, read-other, read-past-hyper}
 use Rattle.cable_window.specs.Laws.Bytes.{hyper-words, hyper-same, hyper-other, hyper-past-hyper}
 
 -- ---- a write by its offset
-figure-facts : (o : ℕ) → T (isFigure o) → (o % 4 ≡ 0) × (8 ≤ o) × (o ≤ 40)
-figure-facts o f = search (and-l, and-r, eqb→eq, leb→le)
+quote-word-facts : (o : ℕ) → T (isQuoteWord o) → (o % 4 ≡ 0) × (8 ≤ o) × (o ≤ 40)
+quote-word-facts o f = search (and-l, and-r, eqb→eq, leb→le)
 
-figure-writable : (at : ℕ) → T (isFigure at) → writable at ≡ true
-figure-writable at = go (eqb (at % 4) 0) (eqb at commandAt) (leb 8 at && leb at 40)
+quote-word-writable : (at : ℕ) → T (isQuoteWord at) → writable at ≡ true
+quote-word-writable at = go (eqb at commandAt) (isQuoteWord at)
   where
-    go : (a b c : Bool) → T (a && c) → (a && (b || c)) ≡ true
-    go true true true f = refl
-    go true false true f = refl
-    go true b false f = absurd f
-    go false b c f = absurd f
+    go : (a b : Bool) → T b → (a || b) ≡ true
+    go true b f = refl
+    go false true f = refl
+    go false false f = absurd f
 
 -- an offset that is refused is none that is writable
 refused-other : (o at : ℕ) → writable o ≡ false → writable at ≡ true → eqb o at ≡ false
@@ -42,14 +41,14 @@ refused-other o at f t = ne-eqb o at (λ e. true≢false (sym t ∙ ap writable 
 
 -- it is refused, a command, or a word of side and figures
 by-offset : (P : List ℕ → Type 0) (s : List ℕ) (o w : ℕ) → (writable o ≡ false → P s) → (o ≡ commandAt → P (commanded s w))
-    → (T (isFigure o) → P (withWord s o w)) → P (afterWrite s o w)
+    → (T (isQuoteWord o) → P (withWord s o w)) → P (afterWrite s o w)
 unfolding afterWrite
 by-offset P s o w refused command figure =
     by-test P (writable o)
-    (λ t. by-test P (eqb o commandAt) (λ z. command (eqb-true o commandAt z)) (λ z. figure (let f : isFigure o ≡ true = rw z at t in rw f tt)))
+    (λ t. by-test P (eqb o commandAt) (λ z. command (eqb-true o commandAt z)) (λ z. figure (let f : isQuoteWord o ≡ true = rw z at t in rw f tt)))
     refused
 
--- ---- a command keeps what each word outside of side and figures keeps
+-- ---- what every write of a word outside of side and figures keeps, a command keeps
 
 -- the word at `at` ends at 8 or before, or starts at 44 or after
 abbrev Outside : ℕ → Type 0
@@ -99,6 +98,11 @@ module _ (s : List ℕ) where
   pub length-write : (o w : ℕ) → length (afterWrite s o w) ≡ length s
   length-write o w = by-offset AsLong s o w (λ _. refl) (λ _. keeps-commanded AsLong keeps-length s w refl) (λ _. length-with-word s o w)
 
+-- ---- its bytes
+pub bytes-write : (s : List ℕ) (o w : ℕ) → AreBytes s → AreBytes (afterWrite s o w)
+bytes-write s o w k =
+    by-offset AreBytes s o w (λ _. k) (λ _. keeps-commanded AreBytes (λ t at v _. bytes-with-word t at v) s w k) (λ _. bytes-with-word s o w k)
+
 -- ---- the command's word
 module _ (s : List ℕ) (l : length s ≡ windowBytes) where
   pub commanded-zero : (c : ℕ) → unsigned (commanded s c) commandAt ≡ 0
@@ -108,29 +112,29 @@ module _ (s : List ℕ) (l : length s ≡ windowBytes) where
   pub zero-write : (o w : ℕ) → unsigned s commandAt ≡ 0 → unsigned (afterWrite s o w) commandAt ≡ 0
   zero-write o w e =
       by-offset (λ t. unsigned t commandAt ≡ 0) s o w (λ _. e) (λ _. commanded-zero w)
-      (λ f. let k = figure-facts o f in read-other s o w commandAt (omega arith) ∙ e)
+      (λ f. let k = quote-word-facts o f in read-other s o w commandAt (omega arith) ∙ e)
 
 -- ---- a word of side and figures
-module _ (s : List ℕ) (at : ℕ) (f : T (isFigure at)) where
-  abbrev SameFigure : List ℕ → Type 0
-  SameFigure t = unsigned t at ≡ unsigned s at
+module _ (s : List ℕ) (at : ℕ) (f : T (isQuoteWord at)) where
+  abbrev SameQuoteWord : List ℕ → Type 0
+  SameQuoteWord t = unsigned t at ≡ unsigned s at
 
-  keeps-figure : (t : List ℕ) (b w : ℕ) → Outside b → SameFigure t → SameFigure (withWord t b w)
-  keeps-figure t b w h e = let k = figure-facts at f in read-other t b w at (omega arith) ∙ e
+  keeps-quote-word : (t : List ℕ) (b w : ℕ) → Outside b → SameQuoteWord t → SameQuoteWord (withWord t b w)
+  keeps-quote-word t b w h e = let k = quote-word-facts at f in read-other t b w at (omega arith) ∙ e
 
-  pub figure-write : (o w : ℕ) → length s ≡ windowBytes → w < 2 ^ 32 → unsigned (afterWrite s o w) at ≡ cond (eqb o at) w (unsigned s at)
-  figure-write o w l h =
-      let k = figure-facts at f in
-      by-offset (λ t. unsigned t at ≡ cond (eqb o at) w (unsigned s at)) s o w (λ r. rw (refused-other o at r (figure-writable at f)))
-      (λ z. rw (ne-eqb o at (λ e. omega arith)) (keeps-commanded SameFigure keeps-figure s w refl))
-      (λ g. let j = figure-facts o g in
+  pub quote-word-write : (o w : ℕ) → length s ≡ windowBytes → w < 2 ^ 32 → unsigned (afterWrite s o w) at ≡ cond (eqb o at) w (unsigned s at)
+  quote-word-write o w l h =
+      let k = quote-word-facts at f in
+      by-offset (λ t. unsigned t at ≡ cond (eqb o at) w (unsigned s at)) s o w (λ r. rw (refused-other o at r (quote-word-writable at f)))
+      (λ z. rw (ne-eqb o at (λ e. omega arith)) (keeps-commanded SameQuoteWord keeps-quote-word s w refl))
+      (λ g. let j = quote-word-facts o g in
       by-test (λ n. unsigned (withWord s o w) at ≡ n) (eqb o at) (λ t. rw (← eqb-true o at t) (read-same s o w (omega arith) h))
       (λ t. let n : o ≢ at = eqb-false o at t in read-other s o w at (omega arith)))
 
 -- a write of one leaves every other word as it was
-pub figure-alone : (s : List ℕ) (o w at : ℕ) → T (isFigure o) → at % 4 ≡ 0 → at ≢ o → unsigned (afterWrite s o w) at ≡ unsigned s at
-figure-alone s o w at f e n =
-    let k = figure-facts o f in
+pub quote-word-alone : (s : List ℕ) (o w at : ℕ) → T (isQuoteWord o) → at % 4 ≡ 0 → at ≢ o → unsigned (afterWrite s o w) at ≡ unsigned s at
+quote-word-alone s o w at f e n =
+    let k = quote-word-facts o f in
     by-offset (λ t. unsigned t at ≡ unsigned s at) s o w (λ _. refl) (λ z. omega arith) (λ _. read-other s o w at (omega arith))
 
 -- ---- the reply, by the words of side and figures
@@ -141,7 +145,7 @@ abbrev pub replyBy : (ℕ → ℕ) → Reply
 replyBy word =
     impliedBlackVolatilityInput (word sideAt) (doubleOf word priceAt) (doubleOf word forwardAt) (doubleOf word strikeAt) (doubleOf word timeAt)
 
-pub same-reply : (f g : ℕ → ℕ) → ((at : ℕ) → T (isFigure at) → f at ≡ g at) → replyBy f ≡ replyBy g
+pub same-reply : (f g : ℕ → ℕ) → ((at : ℕ) → T (isQuoteWord at) → f at ≡ g at) → replyBy f ≡ replyBy g
 same-reply f g e = rw (e 8 tt, e 12 tt, e 16 tt, e 20 tt, e 24 tt, e 28 tt, e 32 tt, e 36 tt, e 40 tt)
 
 pub reply-by : (s : List ℕ) → length s ≡ windowBytes → windowReply s ≡ replyBy (unsigned s)
@@ -157,32 +161,32 @@ reply-by s l =
 reply-cleared : (s : List ℕ) (c : ℕ) → length s ≡ windowBytes → windowReply (cleared s c) ≡ windowReply s
 reply-cleared s c l =
     reply-by (cleared s c) (length-cleared s c ∙ l)
-    ∙ same-reply (unsigned (cleared s c)) (unsigned s) (λ at f. keeps-cleared (SameFigure s at f) (keeps-figure s at f) s c refl)
+    ∙ same-reply (unsigned (cleared s c)) (unsigned s) (λ at f. keeps-cleared (SameQuoteWord s at f) (keeps-quote-word s at f) s c refl)
     ∙ sym (reply-by s l)
 
 -- ---- the results of a solve
-pub record Fit (r : Results) : Type 0 where
+pub record ResultsFit (r : Results) : Type 0 where
   pub status-fits : r .status < 2 ^ 32
   pub total-fits : r .total < 2 ^ 64
   pub volatility-fits : r .volatility < 2 ^ 64
   pub count-fits : r .count < 2 ^ 32
 
-reply-fits : (r : Reply) → Small r → FiguresAreNumbers r → Fit (resultsOf r)
-reply-fits (answer total volatility count) h f = record {
+fits-of : (r : Reply) → ReplyFits r → FiguresAreNumbers r → ResultsFit (resultsOf r)
+fits-of (answer total volatility count) h f = record {
   status-fits = lit< tt;
   total-fits = toBits-lt binary64 total (f .1);
   volatility-fits = toBits-lt binary64 volatility (f .3);
   count-fits = h;
 }
-reply-fits (refusal number count) h f = record {
+fits-of (refusal number count) h f = record {
   status-fits = omega (arith, h .0);
   total-fits = lit< tt;
   volatility-fits = lit< tt;
   count-fits = h .1;
 }
 
-pub results-fit : (s : List ℕ) → Fit (resultsOf (windowReply s))
-results-fit s = reply-fits (windowReply s) (small-reply s) (reply-numbers s)
+pub results-fit : (s : List ℕ) → ResultsFit (resultsOf (windowReply s))
+results-fit s = fits-of (windowReply s) (reply-fits s) (reply-numbers s)
 
 module _ (s : List ℕ) (r : Results) where
   abbrev shown : List ℕ
@@ -201,7 +205,7 @@ module _ (s : List ℕ) (r : Results) where
   unfolding withResults
   shown-is = refl
 
-  results-shown : length s ≡ windowBytes → Fit r → resultsIn shown ≡ r
+  results-shown : length s ≡ windowBytes → ResultsFit r → resultsIn shown ≡ r
   results-shown l f =
       let a = length-with-word s statusAt (r .status) in
       let b = length-with-hyper status-there totalAt (r .total) in
@@ -275,4 +279,4 @@ module _ (s : List ℕ) (l : length s ≡ windowBytes) (h : unsigned s statusAt 
       by-offset (λ t. resultsIn t ≡ interruptCleared (commands 1 w) (resultsIn s)) s o (w .word)
       (λ r. rw (refused-other o commandAt r refl))
       (λ z. commanded-results s (w .word) ∙ rw (unsolved (cleared s (w .word)) (w .word) (rw z at e), z) (cleared-results (w .word)))
-      (λ f. let k = figure-facts o f in rw (ne-eqb o commandAt (λ z. omega arith)) (results-other s o (w .word) (omega arith) (omega arith)))
+      (λ f. let k = quote-word-facts o f in rw (ne-eqb o commandAt (λ z. omega arith)) (results-other s o (w .word) (omega arith) (omega arith)))

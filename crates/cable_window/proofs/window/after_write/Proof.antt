@@ -1,7 +1,7 @@
 -- The tests that led to each return pick the definition's case. Assumes nothing.
 use native.Mathlib.Omega.{arith}
 use borrow.Author.Needs.{needs}
-use Rattle.cable_window.proofs.Steps.{write-refused, write-command, write-figure, figure-within}
+use Rattle.cable_window.proofs.Steps.{write-refused, write-command, write-quote-word, quote-word-within}
 use Rattle.cable_window.proofs.window.after_write.Statement.{statement}
 use Rattle.cable_window.proofs.window.after_write.Tie as tie
 
@@ -18,13 +18,13 @@ with-word-requires c κs =
     let accepted = c .before in
     let tested = accepted .before in
     let a = tested .before .args in
-    omega (arith, figure-within (a .window .bytes) (a .offset) 0 (tested .offset-refusal .ensures) (accepted .if1 .left))
+    omega (arith, quote-word-within (a .window .bytes) (a .offset) 0 (tested .offset-refusal .ensures) (accepted .if1 .left))
 
 returns-3 : tie.Need-returns-3
 returns-3 c =
     let figure = c .before in
     let accepted = figure .before in
-    write-figure _ _ _ (accepted .before .offset-refusal .ensures) (accepted .if1 .left) (figure .if2 .left) (c .with-word .ensures)
+    write-quote-word _ _ _ (accepted .before .offset-refusal .ensures) (accepted .if1 .left) (figure .if2 .left) (c .with-word .ensures)
 
 pub after-write-spec : {M : Type 1} → statement M
 after-write-spec =

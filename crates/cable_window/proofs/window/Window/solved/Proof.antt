@@ -1,11 +1,11 @@
--- The test is on the definition's bit, and what was replied picks the case. A reply is small, so its count and its status are words. Assumes nothing.
+-- The test is on the definition's bit, and what was replied picks the case. A reply fits, so its count and its status are words. Assumes nothing.
 use mathlib.Core.Path.{_≡_, sym, ap, _∙_}
 use native.Mathlib.Omega.{arith}
 use borrow.Author.Needs.{needs}
 use Rattle.explicit_black.specs.Quote.{answer, refusal}
 use Rattle.explicit_black.specs.Replies.{viewReply}
 use Rattle.cable_window.specs.Window.{windowReply}
-use Rattle.cable_window.proofs.Steps.{solved-not, solved-is, answer-shown, refusal-shown, reply-small}
+use Rattle.cable_window.proofs.Steps.{solved-not, solved-is, answer-shown, refusal-shown, found-fits}
 use Rattle.cable_window.proofs.window.Window.solved.Statement.{statement}
 use Rattle.cable_window.proofs.window.Window.solved.Tie as tie
 
@@ -26,16 +26,16 @@ returns : tie.Need-returns
 returns c = solved-not _ _ (c .if1 .taken)
 
 cast-with-results : tie.Need-cast-with-results
-cast-with-results c = record { fits = reply-small _ (found-answer (c .before .before .before)) }
+cast-with-results c = record { fits = found-fits _ (found-answer (c .before .before .before)) }
 
 mul-status : tie.Need-mul-status
-mul-status c = record { fits = omega (arith, reply-small _ (found-refusal (c .before)) .0) }
+mul-status c = record { fits = omega (arith, found-fits _ (found-refusal (c .before)) .0) }
 
 add-status : tie.Need-add-status
-add-status c = record { fits = omega (arith, reply-small _ (found-refusal (c .before)) .0) }
+add-status c = record { fits = omega (arith, found-fits _ (found-refusal (c .before)) .0) }
 
 cast-with-results-2 : tie.Need-cast-with-results-2
-cast-with-results-2 c = record { fits = reply-small _ (found-refusal (c .before)) .1 }
+cast-with-results-2 c = record { fits = found-fits _ (found-refusal (c .before)) .1 }
 
 returns-2 : tie.Need-returns-2
 returns-2 c =

@@ -11,17 +11,17 @@ use Rattle.explicit_black.specs.Laws.Quote.{Facts, FiguresAreNumbers, input-fac
 use Rattle.xdr_sheet.specs.Xdr.{hyper, double}
 use Rattle.cable_window.specs.Window.{timeAt, windowReply}
 
-abbrev pub Small : Reply → Type 0
-Small (answer total volatility count) = count < 2 ^ 32
-Small (refusal number count) = (number < 2 ^ 8) × (count < 2 ^ 32)
+abbrev pub ReplyFits : Reply → Type 0
+ReplyFits (answer total volatility count) = count < 2 ^ 32
+ReplyFits (refusal number count) = (number < 2 ^ 8) × (count < 2 ^ 32)
 
-small : (r : Reply) → Facts (compared r) → Small r
-small (answer total volatility count) h = omega (arith, h .few)
-small (refusal number count) h = (omega (arith, h .numbered number refl .1), omega (arith, h .few))
+fits : (r : Reply) → Facts (compared r) → ReplyFits r
+fits (answer total volatility count) h = omega (arith, h .few)
+fits (refusal number count) h = (omega (arith, h .numbered number refl .1), omega (arith, h .few))
 
-pub small-reply : (s : List ℕ) → Small (windowReply s)
+pub reply-fits : (s : List ℕ) → ReplyFits (windowReply s)
 unfolding windowReply
-small-reply s = small (windowReply s) (input-facts _ _ _ _ _)
+reply-fits s = fits (windowReply s) (input-facts _ _ _ _ _)
 
 pub reply-numbers : (s : List ℕ) → FiguresAreNumbers (windowReply s)
 unfolding windowReply double

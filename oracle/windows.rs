@@ -7,6 +7,7 @@ use std::process::exit;
 
 unsafe extern "C" {
     fn quoter_window_write(window: *mut u8, offset: u32, word: u32) -> u32;
+    fn mmap(at: *mut u8, length: usize, access: i32, flags: i32, file: i32, from: i64) -> *mut u8;
 }
 
 const SHOWN: u64 = 5;
@@ -135,6 +136,23 @@ impl Run {
     }
 }
 
+/// Refused writes to a page that may be neither read nor written: one that touches it ends the run.
+fn untouched(rng: &mut Rng, writes: u64) -> Cases {
+    const NO_ACCESS: i32 = 0;
+    const PRIVATE_ANONYMOUS: i32 = 0x22;
+    let page = unsafe { mmap(std::ptr::null_mut(), 4096, NO_ACCESS, PRIVATE_ANONYMOUS, -1, 0) };
+    assert_ne!(page as isize, -1, "a page can be had");
+    let mut cases = Cases::default();
+    for i in 0..writes {
+        let offset = if i < 128 { i } else { rng.bits() } as u32;
+        if Window::default().write(offset, 0) == UNWRITABLE {
+            let found = unsafe { quoter_window_write(page, offset, 3) };
+            cases.case(found == UNWRITABLE, || format!("  offset {offset}: ours {found}"));
+        }
+    }
+    cases
+}
+
 fn main() {
     let words: Vec<u64> = std::env::args().skip(1).map(|word| word.parse().expect("a number")).collect();
     let (lists, seed) = (words[0], words[1]);
@@ -152,5 +170,7 @@ fn main() {
         any.write(&mut Lent::new(&mut rng, bytes), &mut Window::shown_as(&bytes), write);
     }
     any.told("writes to a window of any bytes");
-    exit((kept.cases.differ + drawn.cases.differ + any.cases.differ != 0) as i32);
+    let untouched = untouched(&mut rng, lists);
+    untouched.told("refused writes to memory that may not be touched");
+    exit((kept.cases.differ + drawn.cases.differ + any.cases.differ + untouched.differ != 0) as i32);
 }

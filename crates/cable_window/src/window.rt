@@ -1,4 +1,4 @@
-// The window: command, status, the figures of a quote, and the results of the last solve. The host writes command and figures.
+// The window: command, status, a quote, and the results of the last solve. The host writes command and quote.
 use explicit_black::quote::Reply;
 use explicit_black::quote::implied_black_volatility_input;
 use xdr_sheet::xdr::double;

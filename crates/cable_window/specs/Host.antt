@@ -42,13 +42,16 @@ replyAfter writes =
 abbrev pub commands : ℕ → Write → Bool
 commands n w = eqb (w .offset) commandAt && eqb (bit n (w .word)) 1
 
+-- whether one of a list is
+abbrev pub anyCommands : ℕ → List Write → Bool
+anyCommands n [] = false
+anyCommands n (w ∷ rest) = commands n w || anyCommands n rest
+
 abbrev pub anySolves : List Write → Bool
-anySolves [] = false
-anySolves (w ∷ rest) = commands 0 w || anySolves rest
+anySolves writes = anyCommands 0 writes
 
 abbrev pub anyClears : List Write → Bool
-anyClears [] = false
-anyClears (w ∷ rest) = commands 1 w || anyClears rest
+anyClears writes = anyCommands 1 writes
 
 -- ---- results
 pub record Results : Type 0 where

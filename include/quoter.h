@@ -130,11 +130,12 @@ uint32_t quoter_sheet_line(const uint8_t *sheet, uint64_t length, uint32_t *fini
      44  total volatility, 52 volatility: doubles, 0 where the last solve was refused
      60  the number of evaluations of the last solve
    Start from 64 zeros; they may also be any other bytes. Write side and figures, write 1 at 0, and read. A solve is quoter_quote of the window's side
-   and doubles, of any bits, and is finished when the call returns; it stores an answer by its bits. Its results stay until the next solve: bit 0 is
-   still 1 after another quote was written. A NaN pattern stays as it was written.
-   Returns 0 for the offsets 0, 8, 12, .. 40: the word was written there, or at 0 carried out, and what it does not name is as it was.
+   and doubles, of any bits, and is finished when the call returns; it stores an answer by its bits. Its results, but for the interrupt, stay until
+   the next solve: bit 0 is still 1 after another quote was written. A NaN pattern stays as it was written.
+   Returns 0 for the offsets 8, 12, .. 40: the word was written there, and every other word is as it was. Returns 0 for the offset 0: the command was
+   carried out, and side and figures are as they were.
    Returns 14 for any other offset: nothing of the window was read or written.
-   One call at a time for a window: until it returns nobody else, an interrupt handler neither, reads or writes the 64 bytes. */
+   One call at a time for a window: until it returns nobody else, not even an interrupt handler, may read or write the 64 bytes. */
 #define QUOTER_WINDOW_BYTES 64
 uint32_t quoter_window_write(uint8_t window[QUOTER_WINDOW_BYTES], uint32_t offset, uint32_t word);
 

@@ -61,7 +61,7 @@ impl Window {
         let high = |figure: &mut u64| *figure = (word as u64) << 32 | *figure & 0xFFFF_FFFF;
         let low = |figure: &mut u64| *figure = *figure >> 32 << 32 | word as u64;
         match offset {
-            0 => self.obey(word),
+            0 => self.carry_out(word),
             8 => self.side = word,
             12 => high(&mut self.price),
             16 => low(&mut self.price),
@@ -76,7 +76,7 @@ impl Window {
         0
     }
 
-    fn obey(&mut self, command: u32) {
+    fn carry_out(&mut self, command: u32) {
         if command & 1 << 1 != 0 {
             self.status &= !(1 << 2);
         }

@@ -729,7 +729,7 @@ static void solve(const char *what, struct host *h, const struct listed *q, uint
 static const struct listed CALL = {0, 1.0, 100.0, 120.0, 1.0, 0, 0.15509699992515916};
 static const struct listed EARLIER = {0, 1.0, 100.0, 120.0, 0.25, 0, 0.15509699992515916};
 
-/* A host's day: it sets the figures, solves, polls, reads the results, clears the interrupt, and starts again. */
+/* What a host does: it sets the figures, solves, polls, reads the results, clears the interrupt, and starts again. */
 static void known_host(void)
 {
     for (int against = 0; against < 2; against++) {

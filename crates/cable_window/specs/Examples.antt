@@ -55,7 +55,7 @@ unfolding afterWrites impliedBlackVolatilityInput fromQuote firstRefusal fromPri
     ofBits toBits
 host-session = (refl, refl, refl, refl, refl, refl)
 
--- a word's other bits do nothing, and neither does a write that is refused
+-- a command's other bits do nothing, and neither does a write that is refused
 pub nothing-done : (afterWrites zeros (solved ++ at 0 0xFFFF_FFFC ∷ []) ≡ afterWrites zeros solved)
     × (afterWrites zeros (solved ++ at 4 7 ∷ at 44 7 ∷ at 60 7 ∷ at 64 7 ∷ at 1 3 ∷ at 41 7 ∷ at 0xFFFF_FFFC 7 ∷ []) ≡ afterWrites zeros solved)
 unfolding afterWrites impliedBlackVolatilityInput fromQuote firstRefusal fromPrice lt le eq

@@ -35,7 +35,7 @@ const VOLATILITY: usize = 52;
 
 const COUNT: usize = 60;
 
-// Where the words of the quote, its side and its figures, begin and end.
+// The first and the last word of the quote, which is its side and its figures.
 const FIRST_QUOTE_WORD: u32 = 8;
 
 const LAST_QUOTE_WORD: u32 = 40;
@@ -166,7 +166,7 @@ impl Window {
         }
     }
 
-    // The interrupt is cleared first; the command then reads as 0, whatever its other bits were.
+    // The interrupt is cleared first, then the quote is solved; afterwards the command reads as 0, whatever its other bits were.
     fn commanded(self, command: u32) -> Window
         ensures { λ r. ⌜ r .bytes ≡ commanded (self .bytes) command ⌝ }
     {

@@ -78,7 +78,7 @@ zero-after s [] h e = e
 zero-after s (w ∷ rest) h e =
     zero-after (afterWrite s (w .offset) (w .word)) rest (length-write s (w .offset) (w .word) ∙ h) (zero-write s h (w .offset) (w .word) e)
 
--- and so it does after every list of writes
+-- and from zeros it does after every list of writes
 pub command-zero : (l : List Write) → unsigned (afterWrites zeros l) commandAt ≡ 0
 command-zero l = zero-after zeros l refl (read-zeros windowBytes commandAt)
 
@@ -95,7 +95,7 @@ other-bits s c = rw (low, next)
 
 -- ---- side and figures
 
--- each word of them reads as it was last written
+-- each word of them reads as it was last written, and as before where none was
 pub quote-word-last : (s : List ℕ) (l : List Write) (at : ℕ) → length s ≡ windowBytes → AreWords l → T (isQuoteWord at)
     → unsigned (afterWrites s l) at ≡ lastWord (unsigned s at) l at
 unfolding afterWrites
@@ -157,7 +157,7 @@ kept-writes s (w ∷ rest) l h e =
     ∙ ap (interruptCleared (anyClears rest)) k
     ∙ cleared-twice (commands 1 w) (anyClears rest) (resultsIn s)
 
--- without a solve they are zeros
+-- from zeros and without a solve they are zeros
 pub no-solve : (l : List Write) → anySolves l ≡ false → resultsIn (afterWrites zeros l) ≡ noResults
 unfolding unsigned hyper
 no-solve l e = kept-writes zeros l refl (lit< tt) e ∙ go (anyClears l)

@@ -1,6 +1,6 @@
 -- What the tests and calls of each function say of its definition, over plain lists and numbers. Assumes nothing.
 use mathlib.Core.Path.{_≡_, refl, sym, ap, _∙_, subst}
-use Prim.Native.Nat.{ℕ, zero, suc, _+_, _*_, _-_, _/_, _%_, _≤_, _<_}
+use Prim.Native.Nat.{ℕ, zero, suc, _+_, _*_, _/_, _%_, _≤_, _<_, _^_}
 use mathlib.Core.Bool.{Bool, true, false, _&&_, _||_, cond}
 use mathlib.Core.List.{List, [], _∷_}
 use borrow.Author.Tests.{lt-leb, le-leb, eq-eqb, ne-eqb}
@@ -12,26 +12,27 @@ use lib.ListN.{length, getD, drop, drop-of-length-le}
 use lib.Ieee.{Float, binary64, toBits}
 use Rattle.explicit_black.specs.Quote.{Reply, answer, refusal, impliedBlackVolatilityInput}
 use Rattle.xdr_sheet.specs.Xdr.{unsigned, double}
-use Rattle.cable_window.specs.Window.{withWord, withHyper, windowReply, withResults, withReply, cleared, solved, commanded}
+use Rattle.cable_window.specs.Window.{commandAt, statusAt, sideAt, priceAt, forwardAt, strikeAt, timeAt, totalAt, volatilityAt, countAt}
+use Rattle.cable_window.specs.Window.{withWord, withHyper, windowReply, withResults, withReply, withoutInterrupt, cleared, solved, commanded}
 use Rattle.cable_window.specs.Window.{writable, offsetRefusal, afterWrite, afterWrites, writes}
 use Rattle.cable_window.specs.Laws.Fits.{ReplyFits, reply-fits}
 
 -- ---- words
-pub hyper-put : (s : List ℕ) (at n : ℕ) {a b : List ℕ} → a ≡ withWord s at (n / 4294967296) → b ≡ withWord a (at + 4) (n % 4294967296)
+pub hyper-put : (s : List ℕ) (at n : ℕ) {a b : List ℕ} → a ≡ withWord s at (n / 2 ^ 32) → b ≡ withWord a (at + 4) (n % 2 ^ 32)
     → b ≡ withHyper s at n
 unfolding withHyper
-hyper-put s at n p q = q ∙ ap (λ (l : List ℕ). withWord l (at + 4) (n % 4294967296)) p
+hyper-put s at n p q = q ∙ ap (λ (l : List ℕ). withWord l (at + 4) (n % 2 ^ 32)) p
 
 pub results-put : (s : List ℕ) (status total volatility count : ℕ) {a b d e : List ℕ}
-    → a ≡ withWord s 4 status → b ≡ withHyper a 44 total → d ≡ withHyper b 52 volatility → e ≡ withWord d 60 count
+    → a ≡ withWord s statusAt status → b ≡ withHyper a totalAt total → d ≡ withHyper b volatilityAt volatility → e ≡ withWord d countAt count
     → e ≡ withResults s status total volatility count
 unfolding withResults
 results-put s status total volatility count p q r t = t ∙ rw (r, q, p) refl
 
 -- ---- the reply to the window's figures
 pub reply-read : (s : List ℕ) (side : ℕ) (p f k t : Float) {r : Reply}
-    → side ≡ unsigned s 8 → p ≡ double s 12 → f ≡ double s 20 → k ≡ double s 28 → t ≡ double s 36 → r ≡ impliedBlackVolatilityInput side p f k t
-    → r ≡ windowReply s
+    → side ≡ unsigned s sideAt → p ≡ double s priceAt → f ≡ double s forwardAt → k ≡ double s strikeAt → t ≡ double s timeAt
+    → r ≡ impliedBlackVolatilityInput side p f k t → r ≡ windowReply s
 unfolding windowReply
 reply-read s side p f k t a b c d e h = h ∙ rw (a, b, c, d, e)
 
@@ -49,8 +50,8 @@ pub cleared-not : (s : List ℕ) (command : ℕ) → command / 2 % 2 ≡ 0 → s
 unfolding cleared
 cleared-not s command h = rw (bit-off (command / 2 % 2) h)
 
-pub cleared-is : (s : List ℕ) (command status : ℕ) {a : List ℕ} → (command / 2 % 2 ≡ 0 → ⊥) → status ≡ unsigned s 4
-    → a ≡ withWord s 4 (status - status / 4 % 2 * 4) → a ≡ cleared s command
+pub cleared-is : (s : List ℕ) (command status : ℕ) {a : List ℕ} → (command / 2 % 2 ≡ 0 → ⊥) → status ≡ unsigned s statusAt
+    → a ≡ withWord s statusAt (withoutInterrupt status) → a ≡ cleared s command
 unfolding cleared
 cleared-is s command status h e p = rw (bit-on (command / 2 % 2) (omega arith) h, ← e) p
 
@@ -76,7 +77,7 @@ pub solved-is : (s : List ℕ) (command : ℕ) {r : Reply} {a : List ℕ} → (c
 unfolding solved
 solved-is s command h e p = rw (by-one command, bit-on (command % 2) (omega arith) h, ← e) p
 
-pub commanded-is : (s : List ℕ) (command : ℕ) {a b d : List ℕ} → a ≡ cleared s command → b ≡ solved a command → d ≡ withWord b 0 0
+pub commanded-is : (s : List ℕ) (command : ℕ) {a b d : List ℕ} → a ≡ cleared s command → b ≡ solved a command → d ≡ withWord b commandAt 0
     → d ≡ commanded s command
 unfolding commanded
 commanded-is s command p q r = r ∙ rw (q, p)

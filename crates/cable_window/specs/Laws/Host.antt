@@ -24,17 +24,19 @@ use Rattle.cable_window.specs.Laws.Bytes.{read-zeros, zero-bytes, hyper-
 use Rattle.cable_window.specs.Laws.Writes.{length-write, commanded-zero, zero-write, quote-word-write, same-reply, reply-by, results-fit, solve-results}
 use Rattle.cable_window.specs.Laws.Writes.{bytes-write, kept-write}
 
--- ---- a window keeps its length
-pub length-after : (s : List ℕ) (l : List Write) → length (afterWrites s l) ≡ length s
+-- ---- what every write keeps, every list of writes keeps
+kept-after : (P : List ℕ → Type 0) → ((s : List ℕ) (o w : ℕ) → P s → P (afterWrite s o w)) → (s : List ℕ) (l : List Write) → P s → P (afterWrites s l)
 unfolding afterWrites
-length-after s [] = refl
-length-after s (w ∷ rest) = length-after (afterWrite s (w .offset) (w .word)) rest ∙ length-write s (w .offset) (w .word)
+kept-after P step s [] p = p
+kept-after P step s (w ∷ rest) p = kept-after P step (afterWrite s (w .offset) (w .word)) rest (step s (w .offset) (w .word) p)
 
--- ---- its bytes keep to 8 bits, so that a result's two words are the halves of its number
+-- a window's length
+pub length-after : (s : List ℕ) (l : List Write) → length (afterWrites s l) ≡ length s
+length-after s l = kept-after (λ t. length t ≡ length s) (λ t o w e. length-write t o w ∙ e) s l refl
+
+-- and that its bytes have 8 bits, so that a result's two words are the halves of its number
 bytes-after : (s : List ℕ) (l : List Write) → AreBytes s → AreBytes (afterWrites s l)
-unfolding afterWrites
-bytes-after s [] k = k
-bytes-after s (w ∷ rest) k = bytes-after (afterWrite s (w .offset) (w .word)) rest (bytes-write s (w .offset) (w .word) k)
+bytes-after s l k = kept-after AreBytes bytes-write s l k
 
 pub halves-after : (l : List Write) (at : ℕ) → at + 8 ≤ windowBytes
     → (unsigned (afterWrites zeros l) at ≡ hyper (afterWrites zeros l) at / 2 ^ 32)
@@ -72,15 +74,11 @@ pub command-reads-zero : (s : List ℕ) (c : ℕ) → length s ≡ windowBytes �
 unfolding afterWrite
 command-reads-zero s c l = commanded-zero s l c
 
-zero-after : (s : List ℕ) (l : List Write) → length s ≡ windowBytes → unsigned s commandAt ≡ 0 → unsigned (afterWrites s l) commandAt ≡ 0
-unfolding afterWrites
-zero-after s [] h e = e
-zero-after s (w ∷ rest) h e =
-    zero-after (afterWrite s (w .offset) (w .word)) rest (length-write s (w .offset) (w .word) ∙ h) (zero-write s h (w .offset) (w .word) e)
-
 -- and from zeros it does after every list of writes
 pub command-zero : (l : List Write) → unsigned (afterWrites zeros l) commandAt ≡ 0
-command-zero l = zero-after zeros l refl (read-zeros windowBytes commandAt)
+command-zero l =
+    kept-after (λ t. (length t ≡ windowBytes) × (unsigned t commandAt ≡ 0)) (λ t o w k. (length-write t o w ∙ k .0, zero-write t (k .0) o w (k .1)))
+    zeros l (refl, read-zeros windowBytes commandAt) .1
 
 -- a command's bits but 0 and 1 do nothing
 pub other-bits : (s : List ℕ) (c : ℕ) → afterWrite s commandAt c ≡ afterWrite s commandAt (c % 2 ^ 2)

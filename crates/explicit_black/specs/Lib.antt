@@ -9,6 +9,7 @@ pub mod Newton
 pub mod Quantile
 pub mod Survival
 pub mod Quote
+pub mod Discount
 pub mod Price
 pub mod Replies
 pub mod Demand

@@ -131,15 +131,17 @@ unfolding boundTests orElse
 fromPrice price intrinsic bound roots logMoneyness time =
     orElse (boundTests price intrinsic bound time) (fromTimeValue logMoneyness (normalisedTimeValue price intrinsic roots))
 
+-- what follows tests 1 to 4
+abbrev pub fromFigures : ℕ → Float → Float → Float → Float → Counted Outcome
+fromFigures side price forward strike time =
+    fromPrice price (intrinsicValue side forward strike) (priceBound side forward strike)
+    (sqrt forward ⊗ sqrt strike) (negativeAbsLogMoneyness forward strike) time
+
 -- tests 1 to 4, and what passes them
 unfoldable pub fromQuote : ℕ → Float → Float → Float → Float → Counted Outcome
 fromQuote side price forward strike time =
     let number = firstRefusal side price forward strike time in
-    let intrinsic = intrinsicValue side forward strike in
-    let bound = priceBound side forward strike in
-    cond (eqb number 0)
-    (fromPrice price intrinsic bound (sqrt forward ⊗ sqrt strike) (negativeAbsLogMoneyness forward strike) time)
-    (atOnce (refused number))
+    cond (eqb number 0) (fromFigures side price forward strike time) (atOnce (refused number))
 
 unfoldable pub impliedBlackVolatilityInput : ℕ → Float → Float → Float → Float → Reply
 impliedBlackVolatilityInput side price forward strike time = reply time (fromQuote side price forward strike time)

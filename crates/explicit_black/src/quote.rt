@@ -26,13 +26,13 @@ ghost use Rattle.explicit_black.specs.Internal.Searches.{viewQuantile};
 ghost use Rattle.explicit_black.specs.Quote.{impliedNormalisedVolatilityAtm, atTheMoney, totalAt, fromCallPrice, fromNormalisedPrice};
 ghost use Rattle.explicit_black.specs.Quote.{volatilityOver, replyOver};
 ghost use Rattle.explicit_black.specs.Quote.{firstRefusal, intrinsicValue, priceBound, boundTests, normalisedTimeValue};
-ghost use Rattle.explicit_black.specs.Quote.{fromTimeValue, fromPrice, fromQuote};
+ghost use Rattle.explicit_black.specs.Quote.{fromTimeValue, fromPrice, fromFigures, fromQuote};
 ghost use Rattle.explicit_black.specs.Quote.{impliedBlackVolatilityNormalised, impliedBlackVolatilityInput};
 ghost use Rattle.explicit_black.specs.Internal.Quote.{viewSolved, viewTested, LeftWithin, RepliesTo};
 ghost use Rattle.explicit_black.specs.Replies.{viewReply};
 
 // No quote makes more evaluations.
-const MAX_EVALUATIONS: u64 = 2263;
+pub(crate) const MAX_EVALUATIONS: u64 = 2263;
 
 // The total volatility or the number of a refusal, with how many evaluations are still allowed; or
 // spent where one more was needed.
@@ -70,7 +70,7 @@ pub fn volatility(total: f64, time: f64, root_time: f64) -> f64
 
 impl Solved {
     // The reply to a quote that was allowed so many evaluations: the count is what its calls took off.
-    fn reply(self, allowed: u64, time: f64, root_time: f64) -> Reply
+    pub(crate) fn reply(self, allowed: u64, time: f64, root_time: f64) -> Reply
         requires { ⌜ LeftWithin allowed (viewSolved self) ⌝ }
         ensures { λ r. ⌜ RepliesTo allowed time «root_time» (viewSolved self) (viewReply r) ⌝ }
     {
@@ -352,6 +352,22 @@ pub fn from_price(
     }
 }
 
+// Solves from figures that passed tests 1 to 4: tests 5 and 6, and those of the time value.
+pub fn from_figures(
+    side: u32,
+    price: f64,
+    forward: f64,
+    strike: f64,
+    time: f64,
+    allowed: Allowance,
+) -> Solved
+    ensures { λ r. ⌜ viewSolved r ≡ limited (allowed .left) (fromFigures side price forward strike time) ⌝ }
+{
+    let intrinsic = intrinsic_value(side, forward, strike);
+    let bound = price_bound(side, forward, strike);
+    from_price(price, intrinsic, bound, forward, strike, time, allowed)
+}
+
 // Solves from the figures of a quote: tests 1 to 4 (REQUIREMENTS 5), and those of the price.
 pub fn from_quote(
     side: u32,
@@ -367,9 +383,7 @@ pub fn from_quote(
     if number != 0 {
         return Solved::Refused(number, allowed);
     }
-    let intrinsic = intrinsic_value(side, forward, strike);
-    let bound = price_bound(side, forward, strike);
-    from_price(price, intrinsic, bound, forward, strike, time, allowed)
+    from_figures(side, price, forward, strike, time, allowed)
 }
 
 pub fn implied_black_volatility_input(

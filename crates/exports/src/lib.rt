@@ -22,7 +22,8 @@ ghost use Rattle.special_function.specs.Erfinv.{erfinv};
 ghost use Rattle.special_function.specs.NormalDistribution.{normPdf, normCdf, inverseNormCdf};
 ghost use Rattle.bs_option_price.specs.BsOptionPrice.{normalisedBlack, negativeAbsLogMoneyness};
 ghost use Rattle.explicit_black.specs.Curves.{inverseGaussianCdf, inverseGaussianSurvival};
-ghost use Rattle.explicit_black.specs.Quote.{impliedBlackVolatilityNormalised, impliedBlackVolatilityInput};
+ghost use Rattle.explicit_black.specs.Quote.{impliedBlackVolatilityNormalised};
+ghost use Rattle.explicit_black.specs.Discount.{impliedBlackVolatilityDiscounted};
 ghost use Rattle.explicit_black.specs.Price.{blackPrice};
 ghost use Rattle.explicit_black.specs.Replies.{viewReply};
 ghost use Rattle.ladder.specs.Ladder.{ladder};
@@ -198,19 +199,21 @@ pub extern "C" fn quoter_quote(
     forward: f64,
     strike: f64,
     time: f64,
+    factor: f64,
     total: &mut f64,
     volatility: &mut f64,
     count: &mut u64,
 ) -> u32
     ensures { λ r. ⌜ handedReply r (now (total .exit)) (now (volatility .exit)) (now (count .exit))
-        ≡ replyToC (now (total .entry)) (now (volatility .entry)) (impliedBlackVolatilityInput side price forward strike time) ⌝ }
+        ≡ replyToC (now (total .entry)) (now (volatility .entry)) (impliedBlackVolatilityDiscounted side price forward strike time factor) ⌝ }
 {
-    let reply = explicit_black::quote::implied_black_volatility_input(
+    let reply = explicit_black::discount::implied_black_volatility_discounted(
         side,
         price,
         forward,
         strike,
         time,
+        factor,
     );
     hand(reply, total, volatility, count)
 }

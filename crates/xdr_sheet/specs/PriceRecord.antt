@@ -1,5 +1,5 @@
--- The record of a price: a quote's layout in a sheet with the volatility in the price's place; the reply to it, and the numbers of records, from 1 on
--- (REQUIREMENTS 14.1). Definitions only.
+-- The record of a price: a quote's layout in a sheet up to its time, with the volatility in the price's place; the reply to it, and the numbers of
+-- records, from 1 on (REQUIREMENTS 14.1). Definitions only.
 use Prim.Native.Nat.{ℕ, suc, _+_, _-_}
 use mathlib.Core.Bool.{cond}
 use mathlib.Core.List.{List}

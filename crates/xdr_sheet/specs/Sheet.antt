@@ -1,11 +1,12 @@
--- A sheet: an unsigned count, then for each quote an unsigned side and the doubles price, forward, strike, time; and the text of its answers
--- (REQUIREMENTS 11). Definitions only.
+-- A sheet: an unsigned count, then for each quote an unsigned side and the doubles price, forward, strike, time, factor; and the text of its
+-- answers (REQUIREMENTS 11, 14.7). Definitions only.
 use Prim.Native.Nat.{ℕ, zero, suc, _+_, _*_}
 use mathlib.Core.Bool.{cond}
 use mathlib.Core.List.{List, [], _++_}
 use lib.Dec.{ltb, eqb}
 use lib.ListN.{length}
-use Rattle.explicit_black.specs.Quote.{Reply, refusal, impliedBlackVolatilityInput}
+use Rattle.explicit_black.specs.Quote.{Reply, refusal}
+use Rattle.explicit_black.specs.Discount.{impliedBlackVolatilityDiscounted}
 use Rattle.xdr_sheet.specs.Xdr.{unsigned, double}
 use Rattle.xdr_sheet.specs.Tally.{emptyTally, tallyWith}
 use Rattle.xdr_sheet.specs.Text.{line, closing, refusedSheet}
@@ -16,7 +17,7 @@ abbrev pub countBytes : ℕ
 countBytes = 4
 
 abbrev pub quoteBytes : ℕ
-quoteBytes = 36
+quoteBytes = 44
 
 abbrev pub maxQuotes : ℕ
 maxQuotes = 1000
@@ -33,6 +34,9 @@ strikeAt = 20
 
 abbrev pub timeAt : ℕ
 timeAt = 28
+
+abbrev pub factorAt : ℕ
+factorAt = 36
 
 -- how many bytes a sheet of n quotes has: there starts the quote with n before it
 abbrev pub bytesOf : ℕ → ℕ
@@ -64,8 +68,8 @@ size s =
 unfoldable pub replyFrom : List ℕ → ℕ → Reply
 unfolding unsigned double
 replyFrom s at =
-    impliedBlackVolatilityInput (unsigned s at)
-    (double s (at + priceAt)) (double s (at + forwardAt)) (double s (at + strikeAt)) (double s (at + timeAt))
+    impliedBlackVolatilityDiscounted (unsigned s at)
+    (double s (at + priceAt)) (double s (at + forwardAt)) (double s (at + strikeAt)) (double s (at + timeAt)) (double s (at + factorAt))
 
 -- the reply of the quote with i quotes before it
 abbrev pub replyAt : List ℕ → ℕ → Reply

@@ -1,4 +1,4 @@
-// A price's record: laid out as a quote of a sheet, with the volatility in the price's place. And its number.
+// A price's record: laid out as a quote of a sheet up to its time, with the volatility in the price's place. And its number.
 ghost use mathlib.Core.Path.{_≡_};
 ghost use Rattle.explicit_black.specs.Replies.{viewPriceReply};
 ghost use Rattle.xdr_sheet.specs.PriceRecord.{priceReply, firstNumber, numberAfter};

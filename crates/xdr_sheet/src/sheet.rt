@@ -1,5 +1,5 @@
 // A sheet: an unsigned count, then for each quote an unsigned side and the doubles price, forward,
-// strike and time.
+// strike, time and factor.
 ghost use mathlib.Core.Path.{_≡_};
 ghost use Prim.Native.Nat.{_+_, _≤_};
 ghost use lib.ListN.{length};
@@ -8,12 +8,12 @@ ghost use Rattle.xdr_sheet.specs.Sheet.{quoteBytes, size, replyFrom, she
 ghost use Rattle.xdr_sheet.specs.Replies.{viewSize, viewSheetReply};
 use crate::xdr::double;
 use crate::xdr::unsigned;
+use explicit_black::discount::implied_black_volatility_discounted;
 use explicit_black::quote::Reply;
-use explicit_black::quote::implied_black_volatility_input;
 
 const COUNT_BYTES: usize = 4;
 
-const QUOTE_BYTES: usize = 36;
+const QUOTE_BYTES: usize = 44;
 
 const MAX_QUOTES: u32 = 1000;
 
@@ -28,6 +28,8 @@ pub(crate) const FORWARD: usize = 12;
 pub(crate) const STRIKE: usize = 20;
 
 pub(crate) const TIME: usize = 28;
+
+const FACTOR: usize = 36;
 
 // How many quotes a sheet has, or the number and count of the refusal that it is refused with.
 pub enum Size {
@@ -74,7 +76,8 @@ fn quote(sheet: &[u8], at: usize) -> Reply
     let forward = double(sheet, at + FORWARD);
     let strike = double(sheet, at + STRIKE);
     let time = double(sheet, at + TIME);
-    implied_black_volatility_input(side, price, forward, strike, time)
+    let factor = double(sheet, at + FACTOR);
+    implied_black_volatility_discounted(side, price, forward, strike, time, factor)
 }
 
 // The reply of the quote with `index` quotes before it. Each quote of a refused sheet is refused as the sheet is.

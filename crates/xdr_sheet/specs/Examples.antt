@@ -1,4 +1,4 @@
--- The sheet of REQUIREMENTS 11.4, one of no quotes and one that is refused, with their text to the byte; answers as they are tallied; records of
+-- The sheet of REQUIREMENTS 11.4, one with discounted prices, one of no quotes and two that are refused, with their text to the byte; answers as they are tallied; records of
 -- prices with their lines. Assumes nothing.
 use mathlib.Core.Path.{_≡_, refl}
 use Prim.Native.Nat.{ℕ}
@@ -6,7 +6,8 @@ use mathlib.Core.List.{List, [], _∷_, _++_}
 use lib.Ieee.{add, sub, mul, div, lt, le, eq, isNan, ofBits, toBits}
 use Rattle.arithmetic.specs.Sqrt.{sqrt}
 use Rattle.arithmetic.specs.Operations.{bits, infinity}
-use Rattle.explicit_black.specs.Quote.{answer, volatilityOver, firstRefusal, fromTimeValue, fromPrice, fromQuote, impliedBlackVolatilityInput}
+use Rattle.explicit_black.specs.Quote.{answer, volatilityOver, firstRefusal, fromTimeValue, fromPrice}
+use Rattle.explicit_black.specs.Discount.{discountedRefusal, fromDiscountedQuote, impliedBlackVolatilityDiscounted}
 use Rattle.explicit_black.specs.Price.{priceRefusal, priceOf, blackPrice}
 use Rattle.xdr_sheet.specs.Tally.{tallyOf, emptyTally, tallyWith}
 use Rattle.xdr_sheet.specs.Text.{ascii, priceLine, closing}
@@ -29,6 +30,12 @@ fifth = 0x3F ∷ 0xC9 ∷ 0x99 ∷ 0x99 ∷ 0x99 ∷ 0x99 ∷ 0x99 ∷ 0x9A ∷ 
 abbrev five : List ℕ
 five = 0x40 ∷ 0x14 ∷ 0x00 ∷ 0x00 ∷ 0x00 ∷ 0x00 ∷ 0x00 ∷ 0x00 ∷ []
 
+abbrev half : List ℕ
+half = 0x3F ∷ 0xE0 ∷ 0x00 ∷ 0x00 ∷ 0x00 ∷ 0x00 ∷ 0x00 ∷ 0x00 ∷ []
+
+abbrev fifty : List ℕ
+fifty = 0x40 ∷ 0x49 ∷ 0x00 ∷ 0x00 ∷ 0x00 ∷ 0x00 ∷ 0x00 ∷ 0x00 ∷ []
+
 abbrev hundred : List ℕ
 hundred = 0x40 ∷ 0x59 ∷ 0x00 ∷ 0x00 ∷ 0x00 ∷ 0x00 ∷ 0x00 ∷ 0x00 ∷ []
 
@@ -39,18 +46,36 @@ hundredTwenty = 0x40 ∷ 0x5E ∷ 0x00 ∷ 0x00 ∷ 0x00 ∷ 0x00 ∷ 0x00 ∷ 0
 abbrev word : ℕ → List ℕ
 word n = 0x00 ∷ 0x00 ∷ 0x00 ∷ n ∷ []
 
--- three quotes: side, price, forward, strike, time
+-- three quotes: side, price, forward, strike, time, factor
 abbrev pub sample : List ℕ
 sample =
     word 3
-    ++ word 0 ++ plusZero ++ hundred ++ hundredTwenty ++ one
-    ++ word 0 ++ hundred ++ hundred ++ hundredTwenty ++ one
-    ++ word 1 ++ five ++ hundred ++ hundredTwenty ++ one
+    ++ word 0 ++ plusZero ++ hundred ++ hundredTwenty ++ one ++ one
+    ++ word 0 ++ hundred ++ hundred ++ hundredTwenty ++ one ++ one
+    ++ word 1 ++ five ++ hundred ++ hundredTwenty ++ one ++ one
 
 pub text-of-sample : text sample
     ≡ ascii "1 V 0000000000000000 0000000000000000 0\n2 V 7ff0000000000000 7ff0000000000000 0\n3 R 7 0\nT 1 1 1\n"
-unfolding text impliedBlackVolatilityInput fromQuote firstRefusal fromPrice fromTimeValue volatilityOver sqrt add sub mul div lt le eq isNan ofBits toBits
+unfolding text impliedBlackVolatilityDiscounted fromDiscountedQuote discountedRefusal fromPrice fromTimeValue volatilityOver
+    sqrt add sub mul div lt le eq isNan ofBits toBits
 text-of-sample = refl
+
+-- discounted: 50 / 0.5 is the bound of the first; the factor of the second is 0
+abbrev pub discounted : List ℕ
+discounted =
+    word 2
+    ++ word 0 ++ fifty ++ hundred ++ hundredTwenty ++ one ++ half
+    ++ word 0 ++ five ++ hundred ++ hundredTwenty ++ one ++ plusZero
+
+pub text-of-discounted : text discounted ≡ ascii "1 V 7ff0000000000000 7ff0000000000000 0\n2 R 15 0\nT 0 1 1\n"
+unfolding text impliedBlackVolatilityDiscounted fromDiscountedQuote discountedRefusal fromPrice fromTimeValue volatilityOver
+    sqrt add sub mul div lt le eq isNan ofBits toBits
+text-of-discounted = refl
+
+-- a sheet whose quotes have 36 bytes, without a factor, is refused
+pub text-of-36-bytes : text (word 1 ++ word 0 ++ five ++ hundred ++ hundredTwenty ++ one) ≡ ascii "S 10\n"
+unfolding text
+text-of-36-bytes = refl
 
 -- no quotes
 pub text-of-no-quotes : text (word 0) ≡ ascii "T 0 0 0\n"

@@ -24,7 +24,7 @@ use Rattle.bs_option_price.specs.BsOptionPrice.{negativeAbsLogMoneyness}
 use Rattle.explicit_black.specs.Counted.{Counted, atOnce}
 use Rattle.explicit_black.specs.Quote.{Outcome, total, refused, Reply, answer, refusal, reply, replyOf, volatility, volatilityOver}
 use Rattle.explicit_black.specs.Quote.{fromNormalisedPrice, impliedBlackVolatilityNormalised, firstRefusal, intrinsicValue, priceBound}
-use Rattle.explicit_black.specs.Quote.{normalisedTimeValue, fromTimeValue, fromPrice, fromQuote, impliedBlackVolatilityInput}
+use Rattle.explicit_black.specs.Quote.{normalisedTimeValue, fromTimeValue, fromFigures, fromQuote, impliedBlackVolatilityInput}
 use Rattle.explicit_black.specs.Demand.{compared}
 use Rattle.explicit_black.specs.Laws.Tests.{from-price-is}
 use Rattle.explicit_black.specs.Laws.Kinds.{Kind, lowered, normalised-kind, from-time-value-kind, from-price-kind}
@@ -32,7 +32,7 @@ use Rattle.explicit_black.specs.Laws.Kinds.{total-at-once, refused-at-on
 use Rattle.explicit_black.specs.Laws.ZeroPrice.{bound-above, or-right}
 
 -- ---- what holds of an outcome of each kind
-kind-count : {least : ℕ} (c : Counted Outcome) → Kind least c → c .count ≤ 2263
+pub kind-count : {least : ℕ} (c : Counted Outcome) → Kind least c → c .count ≤ 2263
 kind-count c (total-at-once v e n F) = rw e (lit≤ tt)
 kind-count c (refused-at-once m e l h) = rw e (lit≤ tt)
 kind-count c (total-at-root x e p F h) = h
@@ -84,7 +84,7 @@ volatility-number t v p l F n = by-test IsNumber (eq t plusZero) (λ e. zero-num
     quotient : T (positive t) → IsNumber (v ⊘ sqrt t)
     quotient q = (div-no-nan binary64 v (sqrt t) n (sqrt-positive t q F), div-fits binary64 v (sqrt t))
 
-kind-numbers : {least : ℕ} (t : Float) (c : Counted Outcome) → isFinite t ≡ true → lt t plusZero ≡ false → T (fits binary64 t) → Kind least c
+pub kind-numbers : {least : ℕ} (t : Float) (c : Counted Outcome) → isFinite t ≡ true → lt t plusZero ≡ false → T (fits binary64 t) → Kind least c
     → FiguresAreNumbers (reply t c)
 kind-numbers t c p l F (total-at-once v e n f) = rw e (let w = volatility-number t v p l F n in (n, f, w .0, w .1))
 kind-numbers t c p l F (refused-at-once m e i h) = rw e tt
@@ -94,29 +94,42 @@ kind-numbers t c p l F (total-at-root x e q f h) =
     let n = finite-no-nan (two ⊘ sqrt x) (o .bounded) in
     rw e (let w = volatility-number t (two ⊘ sqrt x) p l F n in (n, o .held, w .0, w .1))
 
--- ---- WHAT HOLDS OF EVERY REPLY: its outcome with its count
-pub record Facts (c : Counted Outcome) : Type 0 where
+-- ---- WHAT HOLDS OF EVERY REPLY: its outcome with its count, where `Number` says which numbers its refusals have
+pub record FactsOf (Number : ℕ → Type 0) (c : Counted Outcome) : Type 0 where
   -- no more than 2,263 evaluations
   pub few : c .count ≤ 2263
-  -- a refusal is one of 1 to 9, and 1 to 8 have count 0
-  pub numbered : (m : ℕ) → c .result ≡ refused m → (1 ≤ m) × (m ≤ 9)
-  pub free : (m : ℕ) → c .result ≡ refused m → m ≤ 8 → c .count ≡ 0
+  -- a refusal has one of these numbers, and all but 9 have count 0
+  pub numbered : (m : ℕ) → c .result ≡ refused m → Number m
+  pub free : (m : ℕ) → c .result ≡ refused m → (m ≡ 9 → ⊥) → c .count ≡ 0
   -- an answer whose total is 0 or infinite has count 0
   pub ends : (v : Float) → c .result ≡ total v → (eq v plusZero ≡ true) ⊎ (isFinite v ≡ false) → c .count ≡ 0
 
-kind-facts : (c : Counted Outcome) → Kind 5 c → Facts c
-kind-facts c k = record {
+-- 1 to 9
+abbrev pub OneToNine : ℕ → Type 0
+OneToNine m = (1 ≤ m) × (m ≤ 9)
+
+abbrev pub Facts : Counted Outcome → Type 0
+Facts = FactsOf OneToNine
+
+-- they hold of an outcome of each kind, and of the refusals of the tests before it
+pub kind-facts : {Number : ℕ → Type 0} → ((m : ℕ) → OneToNine m → Number m) → (c : Counted Outcome) → Kind 5 c → FactsOf Number c
+kind-facts numbers c k = record {
   few = kind-count c k;
-  numbered = λ m e. let q = kind-refused c m (lit≤ tt) k e in (omega arith, omega arith);
-  free = λ m e h. kind-refused c m (lit≤ tt) k e .2 h;
+  numbered = λ m e. let q = kind-refused c m (lit≤ tt) k e in numbers m (omega arith, omega arith);
+  free = λ m e n. let q = kind-refused c m (lit≤ tt) k e in q .2 (le-of-lt-suc (le-and-not m 9 (q .1) n));
   ends = λ v e z. kind-ends c v k e z;
 }
+  where
+    le-and-not : (m n : ℕ) → m ≤ n → (m ≡ n → ⊥) → m < n
+    le-and-not m n h g = omega (arith, g)
 
--- they hold of the refusals of tests 1 to 4
-refused-facts : (m : ℕ) → 1 ≤ m → m ≤ 4 → Facts (atOnce (refused m))
-refused-facts m l h = record {
+    le-of-lt-suc : {m : ℕ} → m < 9 → m ≤ 8
+    le-of-lt-suc h = omega arith
+
+pub refused-facts : {Number : ℕ → Type 0} (m : ℕ) → Number m → FactsOf Number (atOnce (refused m))
+refused-facts {Number} m h = record {
   few = lit≤ tt;
-  numbered = λ n e. let i : m ≡ n = cc in (omega arith, omega arith);
+  numbered = λ n e. let i : m ≡ n = cc in subst Number i h;
   free = λ n e g. refl;
   ends = λ v e z. never (cc);
 }
@@ -143,8 +156,8 @@ pub normalised-facts : (x p : Float) → Facts (compared (impliedBlackVolatility
 unfolding impliedBlackVolatilityNormalised
 normalised-facts x p =
     subst Facts (sym (compared-reply one _))
-    (in-both Facts (isFinite x && isFinite p) (kind-facts (fromNormalisedPrice x p) (lowered 5 7 _ (lit≤ tt) (normalised-kind x p)))
-    (refused-facts 2 (lit≤ tt) (lit≤ tt)))
+    (in-both Facts (isFinite x && isFinite p) (kind-facts (λ m h. h) (fromNormalisedPrice x p) (lowered 5 7 _ (lit≤ tt) (normalised-kind x p)))
+    (refused-facts 2 (lit≤ tt, lit≤ tt)))
 
 pub normalised-numbers : (x p : Float) → FiguresAreNumbers (impliedBlackVolatilityNormalised x p)
 unfolding impliedBlackVolatilityNormalised lt ofBits fits
@@ -181,8 +194,14 @@ and-right true b e = e
 and-right false b e = absurd (false≢true e)
 
 -- tests 1 to 4: the number of the first that applies, or 0
-abbrev firstOf : Bool → Bool → Bool → Bool → ℕ
+abbrev pub firstOf : Bool → Bool → Bool → Bool → ℕ
 firstOf a b c d = cond (not a) 1 (cond (not b) 2 (cond (not c) 3 (cond d 4 0)))
+
+-- what follows tests whose first that applies has the number n, or their refusal
+pub by-number : (P : Counted Outcome → Type 0) (n : ℕ) (c : Counted Outcome) → (n ≡ 0 → P c) → ((n ≡ 0 → ⊥) → P (atOnce (refused n)))
+    → P (cond (eqb n 0) c (atOnce (refused n)))
+by-number P zero c past stopped = past refl
+by-number P (suc n) c past stopped = rw (eqb·suc-zero n) (stopped (λ e. omega arith))
 
 module _ (side : ℕ) (p f k t : Float) where
   pub first-refusal-le : firstRefusal side p f k t ≤ 4
@@ -227,18 +246,16 @@ module _ (side : ℕ) (p f k t : Float) where
       side-le (suc zero) e = lit≤ tt
       side-le (suc (suc n)) e = absurd (true≢false (sym e ∙ no-side (suc (suc n)) (omega arith)))
 
+  -- what follows tests 1 to 4 is of one of the kinds
+  pub figures-kind : Kind 5 (fromFigures side p f k t)
+  figures-kind = from-price-kind p _ _ _ _ t
+
   -- what holds of outcomes of each kind, and of the refusals of tests 1 to 4, holds of every quote's outcome
   by-first-refusal : (P : Counted Outcome → Type 0) → (firstRefusal side p f k t ≡ 0 → (c : Counted Outcome) → Kind 5 c → P c)
       → ((m : ℕ) → 1 ≤ m → m ≤ 4 → P (atOnce (refused m))) → P (fromQuote side p f k t)
   unfolding fromQuote
-  by-first-refusal P past stopped = go (firstRefusal side p f k t) first-refusal-le past
-    where
-      c : Counted Outcome
-      c = fromPrice p (intrinsicValue side f k) (priceBound side f k) (sqrt f ⊗ sqrt k) (negativeAbsLogMoneyness f k) t
-
-      go : (n : ℕ) → n ≤ 4 → (n ≡ 0 → (c : Counted Outcome) → Kind 5 c → P c) → P (cond (eqb n 0) c (atOnce (refused n)))
-      go zero h q = q refl c (from-price-kind p _ _ _ _ t)
-      go (suc n) h q = rw (eqb·suc-zero n) (stopped (suc n) (omega arith) h)
+  by-first-refusal P past stopped =
+      by-number P (firstRefusal side p f k t) (fromFigures side p f k t) (λ e. past e _ figures-kind) (λ n. stopped _ (omega (arith, n)) first-refusal-le)
 
   pub input-count : fromQuote side p f k t .count ≤ 2263
   input-count = by-first-refusal (λ c. c .count ≤ 2263) (λ e. kind-count) (λ m l h. lit≤ tt)
@@ -248,7 +265,9 @@ module _ (side : ℕ) (p f k t : Float) where
   compared-input = compared-reply t (fromQuote side p f k t)
 
   pub input-facts : Facts (compared (impliedBlackVolatilityInput side p f k t))
-  input-facts = subst Facts (sym compared-input) (by-first-refusal Facts (λ e. kind-facts) refused-facts)
+  input-facts =
+      subst Facts (sym compared-input)
+      (by-first-refusal Facts (λ e. kind-facts (λ m h. h)) (λ m l h. refused-facts m (l, omega arith)))
 
   pub input-numbers : T (fits binary64 t) → FiguresAreNumbers (impliedBlackVolatilityInput side p f k t)
   unfolding impliedBlackVolatilityInput
@@ -277,8 +296,7 @@ domain-refusals side p f k t h m e =
     let q = kind-refused _ m (lit≤ tt) (from-price-kind p _ _ _ _ t) (sym (ap (λ d. d .result) (compared-input side p f k t ∙ is)) ∙ e) in
     (q .0, q .1)
   where
-    is : fromQuote side p f k t
-        ≡ fromPrice p (intrinsicValue side f k) (priceBound side f k) (sqrt f ⊗ sqrt k) (negativeAbsLogMoneyness f k) t
+    is : fromQuote side p f k t ≡ fromFigures side p f k t
     is = unfold fromQuote in rw (domain-passes side p f k t h)
 
 -- ---- at the money nothing is searched for

@@ -15,7 +15,6 @@ use Rattle.io.specs.Digits.{digits, glyph}
 use Rattle.arithmetic.specs.Laws.Choices.{in-both, never}
 use Rattle.explicit_black.specs.Quote.{Reply, answer, refusal}
 use Rattle.explicit_black.specs.Demand.{compared}
-use Rattle.explicit_black.specs.Laws.Quote.{Facts}
 use Rattle.xdr_sheet.specs.Text.{decimalDigits, hexadecimalDigits, lineBytes, sheetLineBytes, places, decimal, hexadecimal}
 use Rattle.xdr_sheet.specs.Text.{line, closing, refusedSheet, fitsInto, overlaid}
 use Rattle.xdr_sheet.specs.Internal.Lines.{bytesPlaced, bufferAfter}
@@ -84,8 +83,8 @@ pub refused-short : (number : ℕ) → length (refusedSheet number) ≤ lineByte
 refused-short number = le-trans (refused-within number) (lit≤ tt)
 
 -- a line of a sheet: number and count have four digits at most, and a tally that fits a u32 ten
-pub line-fits : (number : ℕ) (r : Reply) → number < 10 ^ 4 → Facts (compared r) → length (line number r) ≤ sheetLineBytes
-line-fits number r h f = line-within 4 number r (decimal-below 3 number h) (decimal-below 3 (compared r .count) (omega (arith, f .few)))
+pub line-fits : (number : ℕ) (r : Reply) → number < 10 ^ 4 → compared r .count < 10 ^ 4 → length (line number r) ≤ sheetLineBytes
+line-fits number r h c = line-within 4 number r (decimal-below 3 number h) (decimal-below 3 (compared r .count) c)
 
 pub closing-fits : (t : Tally) → t .finite < 2 ^ 32 → t .infinite < 2 ^ 32 → t .refusals < 2 ^ 32 → length (closing t) ≤ sheetLineBytes
 closing-fits t a b c =

@@ -13,7 +13,7 @@ use Rattle.arithmetic.specs.Laws.Choices.{in-both}
 use Rattle.arithmetic.specs.Laws.Numbers.{lt-or-le}
 use Rattle.explicit_black.specs.Quote.{Reply}
 use Rattle.explicit_black.specs.Demand.{compared}
-use Rattle.explicit_black.specs.Laws.Quote.{Facts, input-facts}
+use Rattle.explicit_black.specs.Laws.Discount.{discounted-facts}
 use Rattle.xdr_sheet.specs.Tally.{emptyTally, tallyWith, tallyCount}
 use Rattle.xdr_sheet.specs.Text.{lineBytes, sheetLineBytes, line, closing, refusedSheet, fitsInto, overlaid}
 use Rattle.xdr_sheet.specs.Sheet.{Size, quotes, refused, size, replyFrom, replyAt, SheetReply, replied, noQuote, sheetReply}
@@ -75,9 +75,9 @@ step-short s t = go (size s)
     go (refused number count) = refused-short number
 
 -- ---- a line of a sheet after tallies that fit a u32
-reply-facts : (s : List ℕ) (i : ℕ) → Facts (compared (replyAt s i))
+reply-count : (s : List ℕ) (i : ℕ) → compared (replyAt s i) .count < 10 ^ 4
 unfolding replyFrom
-reply-facts s i = input-facts _ _ _ _ _
+reply-count s i = omega (arith, discounted-facts _ _ _ _ _ _ .few)
 
 pub step-fits : (s : List ℕ) (t : Tally) → t .finite < 2 ^ 32 → t .infinite < 2 ^ 32 → t .refusals < 2 ^ 32
     → length (step s t .text) ≤ sheetLineBytes
@@ -89,7 +89,7 @@ step-fits s t a b c = go (size s) refl
     go (quotes n) e = elim (lt-or-le (tallyCount t) n) [
       | inl h ↦
           rw (← quote-there s n (tallyCount t) (sym e) h)
-          (line-fits (tallyCount t + 1) (replyAt s (tallyCount t)) (omega (arith, size-count s n (sym e))) (reply-facts s (tallyCount t)))
+          (line-fits (tallyCount t + 1) (replyAt s (tallyCount t)) (omega (arith, size-count s n (sym e))) (reply-count s (tallyCount t)))
       | inr h ↦ rw (← quote-past s n (tallyCount t) (sym e) h) (closing-fits t a b c)
     ]
 

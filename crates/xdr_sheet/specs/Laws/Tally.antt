@@ -9,7 +9,8 @@ use lib.Ieee.Bits.{ofBits-fits}
 use Rattle.arithmetic.specs.Basic.{isInfinite}
 use Rattle.arithmetic.specs.Laws.Choices.{in-both}
 use Rattle.explicit_black.specs.Quote.{Reply, answer, refusal}
-use Rattle.explicit_black.specs.Laws.Quote.{FiguresAreNumbers, input-numbers}
+use Rattle.explicit_black.specs.Laws.Quote.{FiguresAreNumbers}
+use Rattle.explicit_black.specs.Laws.Discount.{discounted-numbers}
 use Rattle.xdr_sheet.specs.Xdr.{hyper, double}
 use Rattle.xdr_sheet.specs.Tally.{tallyOf, withFinite, withInfinite, tallyWith, tallyCount, isFiniteAnswer, isInfiniteAnswer, isRefusal, howMany}
 use Rattle.xdr_sheet.specs.Sheet.{timeAt, bytesOf, replyFrom, replyAt, tally}
@@ -46,7 +47,7 @@ with-kind t (refusal number count) h = refl
 
 reply-numbers : (s : List ℕ) (at : ℕ) → FiguresAreNumbers (replyFrom s at)
 unfolding replyFrom double
-reply-numbers s at = input-numbers _ _ _ _ _ (ofBits-fits binary64 (hyper s (at + timeAt)))
+reply-numbers s at = discounted-numbers _ _ _ _ _ _ (ofBits-fits binary64 (hyper s (at + timeAt)))
 
 pub tally-exact : (s : List ℕ) (n : ℕ)
     → tally s n ≡ tallyOf (howMany (λ i. isFiniteAnswer (replyAt s i)) n) (howMany (λ i. isInfiniteAnswer (replyAt s i)) n)

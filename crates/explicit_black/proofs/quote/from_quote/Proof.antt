@@ -12,14 +12,8 @@ returns c = rw (← c .before .first-refusal .ensures, ne-eqb _ _ (c .if1 .taken
 returns-2 : tie.Need-returns-2
 unfolding fromQuote
 returns-2 c =
-    let at-intrinsic = c .before .before in
-    let at-test = at-intrinsic .before in
-    rw (
-      ← at-test .before .first-refusal .ensures,
-      eq-eqb _ _ (at-test .if1 .left),
-      ← at-intrinsic .intrinsic-value .ensures,
-      ← c .before .price-bound .ensures,
-    ) (c .from-price .ensures)
+    let at-test = c .before in
+    rw (← at-test .before .first-refusal .ensures, eq-eqb _ _ (at-test .if1 .left)) (c .from-figures .ensures)
 
 pub from-quote-spec : {M : Type 1} → statement M
-from-quote-spec = tie.close (tie.spec (λ c κs. tt) returns (λ c κs. tt) (λ c κs. tt) (λ c κs. tt) returns-2)
+from-quote-spec = tie.close (tie.spec (λ c κs. tt) returns (λ c κs. tt) returns-2)

@@ -1,0 +1,49 @@
+-- `discount::discounted_refusal` meets its contract: each return by the tests that led there. Assumes nothing.
+use mathlib.Core.Path.{_≡_, _∙_}
+use mathlib.Core.Bool.{cond, _||_}
+use Prim.Native.Nat.{ℕ}
+use lib.Dec.{eqb}
+use lib.Ieee.{lt}
+use borrow.Author.Tests.{eq-eqb, ne-eqb}
+use Rattle.arithmetic.specs.Operations.{plusZero}
+use Rattle.arithmetic.specs.Laws.Numbers.{denied, affirmed}
+use Rattle.explicit_black.specs.Discount.{discountedRefusal}
+use Rattle.explicit_black.specs.Laws.Quote.{no-side, a-side}
+use Rattle.explicit_black.specs.Laws.Discount.{factor-not-finite, factor-tested-last}
+use Rattle.explicit_black.proofs.discount.discounted_refusal.Statement.{statement}
+use Rattle.explicit_black.proofs.discount.discounted_refusal.Tie as tie
+
+-- the number that the definition gives for the function's arguments
+abbrev number : tie.Start → ℕ
+number s = discountedRefusal (s .args .side) (s .args .price) (s .args .forward) (s .args .strike) (s .args .time) (s .args .factor)
+
+-- where the factor is not finite
+early : (c : tie.Then1) → let s = c .before .before in number s ≡ cond (eqb (s .args .side) 0 || eqb (s .args .side) 1) 2 1
+early c = factor-not-finite _ _ _ _ _ _ (denied _ _ (c .before .is-finite .ensures) (c .if1 .taken))
+
+-- where it is, by the number of tests 1 to 4
+late : (c : tie.After-first-refusal) →
+    let s = c .before .before .before in
+    let first = c .first-refusal .result in
+    number s ≡ cond (eqb first 0) (cond (lt plusZero (s .args .factor)) 0 15) first
+late c =
+    let at-finite = c .before in
+    factor-tested-last _ _ _ _ _ _ (affirmed _ _ (at-finite .before .is-finite .ensures) (at-finite .if1 .left)) ∙ rw (← c .first-refusal .ensures)
+
+returns : tie.Need-returns
+returns c = rw (early (c .before), no-side _ (c .if2 .taken))
+
+returns-2 : tie.Need-returns-2
+returns-2 c = rw (early (c .before), a-side _ (c .if2 .left))
+
+returns-3 : tie.Need-returns-3
+returns-3 c = rw (late (c .before), ne-eqb _ _ (c .if3 .taken))
+
+returns-4 : tie.Need-returns-4
+returns-4 c = rw (late (c .before .before), eq-eqb _ _ (c .before .if3 .left), c .if4 .taken)
+
+returns-5 : tie.Need-returns-5
+returns-5 c = rw (late (c .before .before), eq-eqb _ _ (c .before .if3 .left), c .if4 .left)
+
+pub discounted-refusal-spec : {M : Type 1} → statement M
+discounted-refusal-spec = tie.close (tie.spec (λ c κs. tt) returns returns-2 (λ c κs. tt) returns-3 returns-4 returns-5)

@@ -1,5 +1,5 @@
--- The sheet of REQUIREMENTS 11.4, one with discounted prices, one of no quotes and two that are refused, with their text to the byte; answers as they are tallied; records of
--- prices with their lines. Assumes nothing.
+-- The sheet of REQUIREMENTS 11.4, one with discounted prices, one of no quotes and two that are refused, with their text to the byte; answers as they are
+-- tallied; records of prices with their lines. Assumes nothing.
 use mathlib.Core.Path.{_≡_, refl}
 use Prim.Native.Nat.{ℕ}
 use mathlib.Core.List.{List, [], _∷_, _++_}

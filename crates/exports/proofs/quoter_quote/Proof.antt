@@ -8,7 +8,7 @@ returns : tie.Need-returns
 returns c =
     let places-lent = c .before .before in
     let at-entry = places-lent .before .before in
-    c .hand .ensures ∙ ap (replyToC _ _) (at-entry .implied-black-volatility-input .ensures)
+    c .hand .ensures ∙ ap (replyToC _ _) (at-entry .implied-black-volatility-discounted .ensures)
 
 pub quoter-quote-spec : {M : Type 1} → statement M
 quoter-quote-spec = tie.close (tie.spec (λ c κs. tt) (λ c κs. tt) returns)

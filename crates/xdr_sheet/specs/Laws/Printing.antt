@@ -3,7 +3,8 @@ use mathlib.Core.Path.{_≡_, refl, sym, ap, _∙_}
 use Prim.Native.Nat.{ℕ, zero, suc, _+_, _-_, _^_, _≤_, _<_}
 use native.Mathlib.Omega.{arith}
 use native.Mathlib.Numerals.{add-one}
-use native.Mathlib.Nat.{le-trans}
+use native.Mathlib.Nat.{le-trans, lt-of-le-of-lt}
+use lib.Dec.{lit≤}
 use mathlib.Core.Bool.{cond}
 use mathlib.Core.Logic.{inl, inr}
 use mathlib.Core.List.{List, [], _∷_, _++_, append-assoc, append-nil}
@@ -77,7 +78,7 @@ step-short s t = go (size s)
 -- ---- a line of a sheet after tallies that fit a u32
 reply-count : (s : List ℕ) (i : ℕ) → compared (replyAt s i) .count < 10 ^ 4
 unfolding replyFrom
-reply-count s i = omega (arith, discounted-facts _ _ _ _ _ _ .few)
+reply-count s i = lt-of-le-of-lt (discounted-facts _ _ _ _ _ _ .few) (lit≤ tt)
 
 pub step-fits : (s : List ℕ) (t : Tally) → t .finite < 2 ^ 32 → t .infinite < 2 ^ 32 → t .refusals < 2 ^ 32
     → length (step s t .text) ≤ sheetLineBytes

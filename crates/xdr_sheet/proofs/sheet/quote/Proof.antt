@@ -1,5 +1,6 @@
 -- `sheet::quote` meets its contract: each figure is read where the definition reads it. Assumes nothing.
 use mathlib.Core.Path.{_∙_}
+use Prim.Native.Nat.{_+_}
 use Rattle.explicit_black.specs.Discount.{impliedBlackVolatilityDiscounted}
 use Rattle.xdr_sheet.specs.Xdr.{double}
 use Rattle.xdr_sheet.specs.Sheet.{factorAt, replyFrom}

@@ -1,8 +1,8 @@
--- A number times or over a value that is finite and above zero is no NaN; and 2 / √x, which is finite and at least 2 ^ -1022 for every x
+-- A number times or over a value that is finite and above zero is no NaN; a value over 1 is itself; and 2 / √x, which is finite and at least 2 ^ -1022 for every x
 -- that is finite and above zero. Assumes nothing.
 use mathlib.Core.Path.{_≡_, refl, sym, ap, _∙_, subst}
 use Prim.Native.Nat.{ℕ, zero, suc, _*_, _^_, _≤_, _<_}
-use native.Mathlib.Nat.{le-trans, le-of-eq, le-of-lt, le-of-suc-le-suc, one-mul, mul-one, mul-assoc, mul-comm, mul-right-comm, mul-le-mul}
+use native.Mathlib.Nat.{le-trans, le-of-eq, le-of-lt, le-of-suc-le-suc, one-mul, mul-one, mul-assoc, mul-comm, mul-right-comm, mul-pos, mul-le-mul}
 use native.Mathlib.Nat.{mul-le-mul-left, mul-le-mul-right, le-of-mul-le-mul-right}
 use mathlib.Core.Bool.{Bool, true, false, true≢false, false≢true}
 use lib.IntN.{pos}
@@ -12,12 +12,13 @@ use lib.Ieee.{Float, nan, inf, fin, Format, binary64, prec, low, up, down, unlik
 use lib.Ieee.Fits.{div-fits}
 use lib.Ieee.Order.{round-mono}
 use lib.Ieee.Scale.{finite, overflow}
-use lib.Ieee.Positive.{num, den, positive, value→cross}
-use Rattle.arithmetic.specs.Operations.{_⊘_, two, minPositive}
+use lib.Ieee.Positive.{num, den, den-pos, positive, positive-finite, value→cross}
+use Rattle.arithmetic.specs.Operations.{_⊘_, one, two, minPositive}
+use Rattle.arithmetic.specs.Basic.{isSignMinus}
 use Rattle.arithmetic.specs.Sqrt.{sqrt}
 use Rattle.arithmetic.specs.Laws.Choices.{in-both}
-use Rattle.arithmetic.specs.Laws.Times.{positive-sign, num-positive}
-use Rattle.arithmetic.specs.Laws.Representable.{grid-under}
+use Rattle.arithmetic.specs.Laws.Times.{of-cross, positive-sign, num-positive}
+use Rattle.arithmetic.specs.Laws.Representable.{round-self, grid-under}
 use Rattle.arithmetic.specs.Laws.Sums.{round-finite}
 use Rattle.arithmetic.specs.Laws.Products.{div-is}
 use Rattle.arithmetic.specs.Laws.ScaledRatios.{PositiveNormal, minPositive-is, positive-zero}
@@ -48,6 +49,22 @@ at-least-no-nan x (inf t) h = refl
 at-least-no-nan x (fin t n d) h = refl
 
 -- ---- a number over a value that is finite and above zero
+pub over-positive : (x y : Float) → T (finite x) → T (positive y) → x ⊘ y ≡ round binary64 (isSignMinus x) (num x * den y) (num y * den x)
+over-positive x y p q =
+    div-is binary64 x y p (positive-finite y q) ∙ rw (positive-sign y q, positive-zero (num y) (num-positive y q), unlike-plus (isSignMinus x))
+  where
+    unlike-plus : (s : Bool) → unlike s false ≡ s
+    unlike-plus true = refl
+    unlike-plus false = refl
+
+-- over 1 it is itself
+pub over-one : (x : Float) → T (fits binary64 x) → T (finite x) → x ⊘ one ≡ x
+unfolding ofBits
+over-one x F p =
+    over-positive x one p tt
+    ∙ round-self binary64 x (isSignMinus x) (num x * 1) (1 * den x) (mul-pos (pow-pos 0) (den-pos x)) F
+    (of-cross x (isSignMinus x) (num x * 1) (1 * den x) p refl (sym (mul-assoc (num x) 1 (den x))))
+
 pub div-no-nan : (f : Format) (v r : Float) → isNan v ≡ false → T (positive r) → isNan (div f v r) ≡ false
 unfolding div isNan
 div-no-nan f v nan h p = absurd p

@@ -1,21 +1,83 @@
--- A quote with a discount factor (REQUIREMENTS 14.7): its first refusal, and what holds of every reply. Assumes nothing.
+-- A quote with a discount factor (REQUIREMENTS 14.7): its first refusal, and what holds of every reply; it is the quote of the divided price where that is
+-- finite, and is refused where the quotient overflows; with factor 1 it is the quote without one. Assumes nothing.
 use mathlib.Core.Path.{_≡_, refl, sym, ap, _∙_, subst}
 use mathlib.Core.Logic.{_⊎_, inl, inr}
 use Prim.Native.Nat.{ℕ, zero, suc, _≤_}
 use native.Mathlib.Omega.{arith}
-use mathlib.Core.Bool.{Bool, true, false, not, cond, _&&_, _||_}
+use mathlib.Core.Bool.{Bool, true, false, not, cond, _&&_, _||_, true≢false}
 use lib.Dec.{T, eqb, eqb·suc-zero, lit≤}
-use lib.Ieee.{Float, binary64, fits, lt}
-use Rattle.arithmetic.specs.Operations.{_⊘_, plusZero}
-use Rattle.arithmetic.specs.Basic.{isFinite}
+use lib.Ieee.{Float, nan, inf, fin, binary64, fits, sub, div, lt, le, eq, isNan, ofBits}
+use lib.Ieee.Scale.{finite}
+use lib.Ieee.Positive.{positive, positive-finite}
+use Rattle.arithmetic.specs.Operations.{_⊖_, _⊗_, _⊘_, plusZero, one}
+use Rattle.arithmetic.specs.Basic.{max, takesFirst, isFinite}
+use Rattle.arithmetic.specs.Sqrt.{sqrt}
 use Rattle.arithmetic.specs.Laws.Choices.{in-both}
+use Rattle.arithmetic.specs.Laws.Compare.{finite-no-nan}
+use Rattle.arithmetic.specs.Laws.Extremes.{max-is}
+use Rattle.arithmetic.specs.Laws.Quotients.{div-no-nan, over-one}
+use Rattle.arithmetic.specs.Laws.SqrtBounds.{roots-positive}
+use Rattle.bs_option_price.specs.BsOptionPrice.{negativeAbsLogMoneyness}
+use Rattle.bs_option_price.specs.Laws.MoneynessBounds.{PositiveValue}
 use Rattle.explicit_black.specs.Counted.{Counted, atOnce}
-use Rattle.explicit_black.specs.Quote.{Outcome, refused, reply, firstRefusal, fromFigures}
+use Rattle.explicit_black.specs.Quote.{Outcome, refused, refusal, reply, firstRefusal, intrinsicValue, priceBound, normalisedTimeValue}
+use Rattle.explicit_black.specs.Quote.{fromTimeValue, fromFigures, fromQuote, impliedBlackVolatilityInput}
 use Rattle.explicit_black.specs.Discount.{discountedRefusal, fromDiscountedQuote, impliedBlackVolatilityDiscounted}
 use Rattle.explicit_black.specs.Demand.{compared}
+use Rattle.explicit_black.specs.Laws.Tests.{from-price-is}
 use Rattle.explicit_black.specs.Laws.Quote.{Domain, firstOf, passed, domain-passes, first-refusal-le, figures-kind, by-number}
 use Rattle.explicit_black.specs.Laws.Quote.{OneToNine, FactsOf, kind-facts, refused-facts, kind-count, FiguresAreNumbers, kind-numbers, compared-reply}
 use Rattle.explicit_black.specs.Laws.Kinds.{Kind}
+use Rattle.explicit_black.specs.Laws.PriceNumbers.{above-positive, intrinsic-finite}
+
+-- ---- infinities as prices
+infinite-not-equal : (s : Bool) (y : Float) → T (finite y) → eq (inf s) y ≡ false
+unfolding eq
+infinite-not-equal s nan p = refl
+infinite-not-equal s (inf t) p = absurd p
+infinite-not-equal s (fin t m e) p = refl
+
+at-most-infinity : (b : Float) → T (finite b) → le b (inf false) ≡ true
+unfolding le lt
+at-most-infinity nan p = absurd p
+at-most-infinity (inf s) p = absurd p
+at-most-infinity (fin s m e) p = refl
+
+not-minus-infinity : (b : Float) → T (finite b) → le b (inf true) ≡ false
+unfolding le lt eq
+not-minus-infinity nan p = absurd p
+not-minus-infinity (inf s) p = absurd p
+not-minus-infinity (fin s m e) p = refl
+
+less-finite : (s : Bool) (d : Float) → T (finite d) → inf s ⊖ d ≡ inf s
+unfolding sub
+less-finite s nan p = absurd p
+less-finite s (inf t) p = absurd p
+less-finite s (fin t m e) p = refl
+
+over-root : (s : Bool) (r : Float) → T (positive r) → inf s ⊘ r ≡ inf s
+unfolding div
+over-root s nan p = absurd p
+over-root s (inf t) p = absurd p
+over-root true (fin false m e) p = refl
+over-root false (fin false m e) p = refl
+over-root s (fin true m e) p = absurd p
+
+zero-finite : T (finite plusZero)
+unfolding ofBits
+zero-finite = tt
+
+max-finite : (x y : Float) → T (finite x) → T (finite y) → T (finite (max x y))
+max-finite x y p q = subst (λ (z : Float). T (finite z)) (sym (max-is x y p q)) (in-both (λ (z : Float). T (finite z)) (takesFirst x y) p q)
+
+infinite-time-value : (x i r : Float) → T (finite i) → T (positive r) → fromTimeValue x (normalisedTimeValue (inf true) i r) ≡ atOnce (refused 7)
+infinite-time-value x i r p q = ap (fromTimeValue x) value ∙ below
+  where
+    value : normalisedTimeValue (inf true) i r ≡ inf true
+    value = ap (λ (z : Float). z ⊘ r) (in-both (λ (z : Float). z ≡ inf true) (lt plusZero i) (less-finite true i p) refl) ∙ over-root true r q
+
+    below : fromTimeValue x (inf true) ≡ atOnce (refused 7)
+    below = unfold fromTimeValue le lt ofBits in refl
 
 -- the numbers of a quote's refusals
 abbrev pub OneToNineOr15 : ℕ → Type 0
@@ -123,3 +185,119 @@ module _ (side : ℕ) (p f k t d : Float) where
   discounted-numbers F =
       by-discounted-refusal (λ c. FiguresAreNumbers (reply t c))
       (λ h c. kind-numbers t c (h .figures .time-finite) (h .figures .time-not-below) F) (λ m h. tt)
+
+  -- ---- THE DIVIDED PRICE is what is solved
+  past-tests : DiscountedDomain side p f k t d → fromDiscountedQuote side p f k t d ≡ fromFigures side (p ⊘ d) f k t
+  unfolding fromDiscountedQuote
+  past-tests h = rw (discounted-passes h)
+
+  divided-domain : DiscountedDomain side p f k t d → isFinite (p ⊘ d) ≡ true → Domain side (p ⊘ d) f k t
+  divided-domain h q =
+      let g = h .figures in
+      record {
+        call-or-put = g .call-or-put;
+        price-finite = q;
+        forward-finite = g .forward-finite;
+        forward-above = g .forward-above;
+        strike-finite = g .strike-finite;
+        strike-above = g .strike-above;
+        time-finite = g .time-finite;
+        time-not-below = g .time-not-below;
+      }
+
+  pub divided-outcome : DiscountedDomain side p f k t d → isFinite (p ⊘ d) ≡ true → fromDiscountedQuote side p f k t d ≡ fromQuote side (p ⊘ d) f k t
+  divided-outcome h q = past-tests h ∙ sym (unfold fromQuote in rw (domain-passes side (p ⊘ d) f k t (divided-domain h q)))
+
+  -- where tests 1 to 4 and 15 pass and the quotient is finite, the reply is that of the quotient without a factor
+  pub divided-reply : DiscountedDomain side p f k t d → isFinite (p ⊘ d) ≡ true
+      → impliedBlackVolatilityDiscounted side p f k t d ≡ impliedBlackVolatilityInput side (p ⊘ d) f k t
+  unfolding impliedBlackVolatilityDiscounted impliedBlackVolatilityInput
+  divided-reply h q = ap (reply t) (divided-outcome h q)
+
+  -- ---- A QUOTIENT THAT OVERFLOWS
+  module _ (F : T (fits binary64 f)) (K : T (fits binary64 k)) (h : DiscountedDomain side p f k t d) where
+    forward : PositiveValue f
+    forward = record { above = above-positive f (h .figures .forward-finite) (h .figures .forward-above); held = F }
+
+    strike : PositiveValue k
+    strike = record { above = above-positive k (h .figures .strike-finite) (h .figures .strike-above); held = K }
+
+    abbrev intrinsic : Float
+    intrinsic = intrinsicValue side f k
+
+    abbrev bound : Float
+    bound = priceBound side f k
+
+    abbrev roots : Float
+    roots = sqrt f ⊗ sqrt k
+
+    intrinsic-bounded : T (finite intrinsic)
+    intrinsic-bounded = intrinsic-finite side f k forward strike
+
+    bound-bounded : T (finite bound)
+    bound-bounded = in-both (λ (z : Float). T (finite z)) (eqb side 0) (positive-finite f (forward .above)) (positive-finite k (strike .above))
+
+    infinite-quotient : isFinite (p ⊘ d) ≡ false → (s : Bool) × (p ⊘ d ≡ inf s)
+    infinite-quotient e =
+        let number = finite-no-nan p (subst T (sym (h .figures .price-finite)) tt) in
+        go (p ⊘ d) e (div-no-nan binary64 p d number (above-positive d (h .factor-finite) (h .factor-above)))
+      where
+        go : (q : Float) → isFinite q ≡ false → isNan q ≡ false → (s : Bool) × (q ≡ inf s)
+        go nan e n = absurd (unfold isNan in true≢false n)
+        go (inf s) e n = (s, refl)
+        go (fin s m x) e n = absurd (true≢false e)
+
+    -- the number by the sign of the infinite quotient
+    refused-as : (s : Bool) → fromFigures side (inf s) f k t ≡ atOnce (refused (cond (eq t plusZero) 5 (cond s 7 6)))
+    refused-as s =
+        from-price-is (inf s) intrinsic bound roots (negativeAbsLogMoneyness f k) t
+        ∙ rw (infinite-not-equal s (max intrinsic plusZero) (max-finite intrinsic plusZero intrinsic-bounded zero-finite), infinite-not-equal s bound bound-bounded)
+        (go s (eq t plusZero))
+      where
+        past : Bool → Counted Outcome
+        past s = fromTimeValue (negativeAbsLogMoneyness f k) (normalisedTimeValue (inf s) intrinsic roots)
+
+        go : (s z : Bool) → cond z (atOnce (refused 5)) (cond (le bound (inf s)) (atOnce (refused 6)) (past s))
+            ≡ atOnce (refused (cond z 5 (cond s 7 6)))
+        go s true = refl
+        go false false = rw (at-most-infinity bound bound-bounded)
+        go true false =
+            rw (not-minus-infinity bound bound-bounded)
+            (infinite-time-value (negativeAbsLogMoneyness f k) intrinsic roots intrinsic-bounded
+            (roots-positive f k (forward .above) F (strike .above) K))
+
+    -- 5 at time zero; else 6 where the quotient is positive, and 7 where it is negative
+    pub overflow-refused : isFinite (p ⊘ d) ≡ false
+        → impliedBlackVolatilityDiscounted side p f k t d ≡ refusal (cond (eq t plusZero) 5 (cond (lt plusZero (p ⊘ d)) 6 7)) 0
+    unfolding impliedBlackVolatilityDiscounted lt ofBits
+    overflow-refused e =
+        let (s, i) = infinite-quotient e in
+        ap (reply t) (past-tests h ∙ ap (λ (q : Float). fromFigures side q f k t) i ∙ refused-as s)
+        ∙ ap (λ (n : ℕ). refusal (cond (eq t plusZero) 5 n) 0) (sign s ∙ sym (ap (λ (q : Float). cond (lt plusZero q) 6 7) i))
+      where
+        sign : (s : Bool) → _≡_ {A = ℕ} (cond s 7 6) (cond (lt plusZero (inf s)) 6 7)
+        sign true = refl
+        sign false = refl
+
+-- ---- FACTOR 1: the reply of the quote without a factor, whatever the bits of its figures
+module _ (side : ℕ) (p f k t : Float) (P : T (fits binary64 p)) where
+  same-refusal : discountedRefusal side p f k t one ≡ firstRefusal side p f k t
+  unfolding lt ofBits
+  same-refusal = factor-tested-last side p f k t one refl ∙ go (firstRefusal side p f k t)
+    where
+      go : (n : ℕ) → cond (eqb n 0) (test15 one) n ≡ n
+      go zero = refl
+      go (suc n) = rw (eqb·suc-zero n)
+
+  same-outcome : fromDiscountedQuote side p f k t one ≡ fromQuote side p f k t
+  unfolding fromDiscountedQuote fromQuote
+  same-outcome = rw same-refusal (go (firstRefusal side p f k t) refl)
+    where
+      go : (n : ℕ) → firstRefusal side p f k t ≡ n
+          → cond (eqb n 0) (fromFigures side (p ⊘ one) f k t) (atOnce (refused n)) ≡ cond (eqb n 0) (fromFigures side p f k t) (atOnce (refused n))
+      go zero e = ap (λ (q : Float). fromFigures side q f k t) (over-one p P (subst T (sym (passed side p f k t e .price-finite)) tt))
+      go (suc n) e = rw (eqb·suc-zero n)
+
+  pub factor-one : impliedBlackVolatilityDiscounted side p f k t one ≡ impliedBlackVolatilityInput side p f k t
+  unfolding impliedBlackVolatilityDiscounted impliedBlackVolatilityInput
+  factor-one = ap (reply t) same-outcome

@@ -60,7 +60,7 @@ unfolding eq ofBits
 zero-equal true = refl
 zero-equal false = refl
 
-above-positive : (x : Float) → isFinite x ≡ true → lt plusZero x ≡ true → T (positive x)
+pub above-positive : (x : Float) → isFinite x ≡ true → lt plusZero x ≡ true → T (positive x)
 above-positive x p l = above-zero x (subst T (sym p) tt) l
 
 -- ---- at time zero s is 0
@@ -95,7 +95,7 @@ difference-finite x y o q =
     sub-finite binary64 x y (o .held) (q .held) (positive-finite x (o .above)) (positive-finite y (q .above))
     (positive-sign x (o .above)) (positive-sign y (q .above))
 
-intrinsic-finite : (side : ℕ) (f k : Float) → PositiveValue f → PositiveValue k → T (finite (intrinsicValue side f k))
+pub intrinsic-finite : (side : ℕ) (f k : Float) → PositiveValue f → PositiveValue k → T (finite (intrinsicValue side f k))
 intrinsic-finite side f k o q = in-both (λ (z : Float). T (finite z)) (eqb side 0) (difference-finite f k o q) (difference-finite k f q o)
 
 module _ (side : ℕ) (v f k t : Float) (F : T (fits binary64 f)) (K : T (fits binary64 k)) (M : T (fits binary64 t)) (h : Domain side v f k t)

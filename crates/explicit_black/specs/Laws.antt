@@ -3,6 +3,7 @@ pub mod Counted
 pub mod Counts
 pub mod Demand
 pub mod Discount
+pub mod DiscountDemand
 pub mod Guards
 pub mod Infinite
 pub mod Kinds

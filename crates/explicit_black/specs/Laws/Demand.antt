@@ -39,7 +39,7 @@ use Rattle.explicit_black.specs.Laws.Powers.{comparable-pair, comparable
 -- ---- times: both zero, or both finite and above zero
 
 -- a time that passes tests 2 and 4, and whether it is zero
-record TimeTested (t : Float) (z : Bool) : Type 0 where
+pub record TimeTested (t : Float) (z : Bool) : Type 0 where
   pub finite-time : finite t ≡ true
   pub no-less : lt t plusZero ≡ false
   pub is-zero : eq t plusZero ≡ z
@@ -84,7 +84,7 @@ positive-time (fin false m e) p h =
     lt-back : (a b : ℕ) → a < b → b < a → ⊥
     lt-back a b h g = omega arith
 
-times-tested : (t t' : Float) → ComparableTimes t t' → (z : Bool) × TimeTested t z × TimeTested t' z
+pub times-tested : (t t' : Float) → ComparableTimes t t' → (z : Bool) × TimeTested t z × TimeTested t' z
 times-tested t t' (inl (a, b)) = (true, zero-time t a, zero-time t' b)
 times-tested t t' (inr (a, b, c, d)) = (false, positive-time t a b, positive-time t' c d)
 
@@ -144,7 +144,7 @@ up-value : (n nx dx ny dy : ℕ) → ny * dx * 1 ≡ nx * dy * 4 ^ n → ny * dx
 up-value n nx dx ny dy e = sym (mul-one (ny * dx)) ∙ e ∙ ap (λ (z : ℕ). nx * dy * z) (four-square n) ∙ mul-right-comm nx dy (2 ^ (n + n))
 
 -- 2 ^ k times each other with one sign, or both zero
-data Related (k : ℕ) (x y : Float) : Type 0 where
+pub data Related (k : ℕ) (x y : Float) : Type 0 where
   related-times : Times k x y → Related k x y
   vanish : num x ≡ 0 → num y ≡ 0 → Related k x y
 
@@ -155,7 +155,7 @@ vanishes n m d c C z e = eq-of-mul-eq-mul-right c C m 0 (e ∙ ap (λ (u : ℕ).
 zero-times : (k : ℕ) (x y : Float) → num y * den x ≡ num x * 2 ^ k * den y → num x ≡ 0 → num y ≡ 0
 zero-times k x y v z = vanishes (num x) (num y) (2 ^ k * den y) (den x) (den-pos x) z (v ∙ mul-assoc (num x) (2 ^ k) (den y))
 
-upward : (n : ℕ) (x y : Float) → Exactly (pos n) x y → Related (n + n) x y
+pub upward : (n : ℕ) (x y : Float) → Exactly (pos n) x y → Related (n + n) x y
 upward n x y h = go (h .signs)
   where
     v : num y * den x ≡ num x * 2 ^ (n + n) * den y
@@ -165,7 +165,7 @@ upward n x y h = go (h .signs)
     go (inl z) = vanish z (zero-times (n + n) x y v z)
     go (inr s) = related-times (record { finite-l = h .finite-x; finite-r = h .finite-y; sign = s; value = v })
 
-downward : (n : ℕ) (x y : Float) → Exactly (negsuc n) x y → Related (suc n + suc n) y x
+pub downward : (n : ℕ) (x y : Float) → Exactly (negsuc n) x y → Related (suc n + suc n) y x
 downward n x y h = go (h .signs)
   where
     v : num x * den y ≡ num y * 2 ^ (suc n + suc n) * den x
@@ -198,7 +198,7 @@ pub record ComparableValues (p f k : Float) : Type 0 where
   pub not-negative : T (le plusZero p)
   pub pair : BoundedRatio f k
 
-clear-or-zero : (p : Float) → T (finite p) → T (le plusZero p) → (isSignMinus p ≡ false) ⊎ (num p ≡ 0)
+pub clear-or-zero : (p : Float) → T (finite p) → T (le plusZero p) → (isSignMinus p ≡ false) ⊎ (num p ≡ 0)
 unfolding le ofBits
 clear-or-zero nan b h = absurd b
 clear-or-zero (inf s) b h = absurd b

@@ -289,9 +289,9 @@ module _ (side : ℕ) (p f k t : Float) (P : T (fits binary64 p)) where
       go zero = refl
       go (suc n) = rw (eqb·suc-zero n)
 
-  same-outcome : fromDiscountedQuote side p f k t one ≡ fromQuote side p f k t
+  one-outcome : fromDiscountedQuote side p f k t one ≡ fromQuote side p f k t
   unfolding fromDiscountedQuote fromQuote
-  same-outcome = rw same-refusal (go (firstRefusal side p f k t) refl)
+  one-outcome = rw same-refusal (go (firstRefusal side p f k t) refl)
     where
       go : (n : ℕ) → firstRefusal side p f k t ≡ n
           → cond (eqb n 0) (fromFigures side (p ⊘ one) f k t) (atOnce (refused n)) ≡ cond (eqb n 0) (fromFigures side p f k t) (atOnce (refused n))
@@ -300,4 +300,4 @@ module _ (side : ℕ) (p f k t : Float) (P : T (fits binary64 p)) where
 
   pub factor-one : impliedBlackVolatilityDiscounted side p f k t one ≡ impliedBlackVolatilityInput side p f k t
   unfolding impliedBlackVolatilityDiscounted impliedBlackVolatilityInput
-  factor-one = ap (reply t) same-outcome
+  factor-one = ap (reply t) one-outcome

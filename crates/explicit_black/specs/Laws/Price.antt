@@ -89,7 +89,7 @@ module _ (n : ℕ) (f k f' k' s : Float) (h : BoundedRatio f k) (h' : BoundedRat
 up-fraction : (n nx dx ny dy : ℕ) → ny * dx ≡ nx * 2 ^ (n + n) * dy → ny * dx ≡ nx * dy * 4 ^ n
 up-fraction n nx dx ny dy e = e ∙ mul-right-comm nx (2 ^ (n + n)) dy ∙ ap (λ (z : ℕ). nx * dy * z) (sym (four-square n))
 
-times-up : (n : ℕ) (x y : Float) → Times (n + n) x y → Exactly (pos n) x y
+pub times-up : (n : ℕ) (x y : Float) → Times (n + n) x y → Exactly (pos n) x y
 times-up n x y h = record {
   finite-x = h .finite-l;
   finite-y = h .finite-r;
@@ -97,7 +97,7 @@ times-up n x y h = record {
   signs = inr (h .sign);
 }
 
-times-down : (n : ℕ) (x y : Float) → Times (suc n + suc n) y x → Exactly (negsuc n) x y
+pub times-down : (n : ℕ) (x y : Float) → Times (suc n + suc n) y x → Exactly (negsuc n) x y
 times-down n x y h = record {
   finite-x = h .finite-r;
   finite-y = h .finite-l;
@@ -129,7 +129,7 @@ tests-alike side v f k t f' k' h h' =
       above-plusZero k' (h' .strike),
     )
 
-flipped : (v v' : Float) → BothAboveOrZero v v' → BothAboveOrZero v' v
+pub flipped : (v v' : Float) → BothAboveOrZero v v' → BothAboveOrZero v' v
 flipped v v' q = record { first-finite = q .second-finite; second-finite = q .first-finite; above-or-zero = go (q .above-or-zero) }
   where
     go : (T (lt minPositive v) × T (lt minPositive v')) ⊎ (T (eq v plusZero) × T (eq v' plusZero))

@@ -93,7 +93,7 @@ sub-zero true (fin true n d) h = absurd h
 sub-zero true (fin false n d) h = sum-minus (0 * down d) (n * up d * 1) (1 * down d) (zero-mul (down d)) h
 
 -- ---- a zero divided by the product of the roots
-record IsZero (v : Float) : Type 0 where
+pub record IsZero (v : Float) : Type 0 where
   pub bounded : T (finite v)
   pub vanishes : num v ≡ 0
 
@@ -106,7 +106,7 @@ is-zero-of v s a c C e h = record {
   vanishes = eq-of-mul-eq-mul-right c C (num v) 0 (cross v s a c h ∙ ap (λ (z : ℕ). z * den v) e ∙ zero-mul (den v) ∙ sym (zero-mul c));
 }
 
-round-is-zero : (s : Bool) (a c : ℕ) → 0 < c → a ≡ 0 → IsZero (round binary64 s a c)
+pub round-is-zero : (s : Bool) (a c : ℕ) → 0 < c → a ≡ 0 → IsZero (round binary64 s a c)
 round-is-zero s a c C e =
     let vanishes : a * 2 ^ low binary64 ≡ 0 * c = ap (λ (z : ℕ). z * 2 ^ low binary64) e ∙ zero-mul (2 ^ low binary64) ∙ sym (zero-mul c) in
     is-zero-of (round binary64 s a c) s a c C e
@@ -143,7 +143,7 @@ zero-low v n = or-left (lt v minPositive) (eq v minPositive) (lt-is v minPositiv
     go false = is-true (ltb a b) (lt→ltb a b (below-bound a b vanishes above .0))
     go true = is-true (ltb 0 (a + b)) (lt→ltb 0 (a + b) (below-bound a b vanishes above .1))
 
-zero-not-below : (v : Float) → IsZero v → le plusZero v ≡ true
+pub zero-not-below : (v : Float) → IsZero v → le plusZero v ≡ true
 unfolding le ofBits
 zero-not-below v n =
     or-right (lt plusZero v) (eq plusZero v)

@@ -1,0 +1,284 @@
+-- Demand 3 for quotes with discount factors (REQUIREMENTS 14.7): a quote, and one whose factor is equal and whose divided price, forward and strike are
+-- exactly 4 ^ n times its own, on the same side or exchanged, have one total volatility or refusal number, and one count. And where raw prices that are
+-- exactly 4 ^ n times each other have such divided prices. Assumes nothing.
+use mathlib.Core.Path.{_≡_, refl, sym, ap, _∙_, subst}
+use mathlib.Core.Logic.{_⊎_, inl, inr}
+use Prim.Native.Nat.{ℕ, zero, suc, _+_, _*_}
+use native.Mathlib.Nat.{zero-mul, mul-one, mul-pos}
+use native.Mathlib.Omega.{arith}
+use mathlib.Core.Bool.{Bool, true, false, not, cond, _||_}
+use lib.IntN.{ℤ, pos, negsuc}
+use lib.Dec.{T, eqb, eqb·suc-zero, ltb, ltb→lt}
+use borrow.Author.Tests.{eq-eqb}
+use lib.Ieee.{Float, nan, inf, fin, binary64, fits, unlike, below, div, lt, le, eq, ofBits}
+use lib.Ieee.Fits.{div-fits}
+use lib.Ieee.Bits.{is-true, ofBits-fits}
+use lib.Ieee.Scale.{finite}
+use lib.Ieee.Positive.{num, den, den-pos, positive}
+use Rattle.arithmetic.specs.Operations.{_⊘_, bits, plusZero}
+use Rattle.arithmetic.specs.Basic.{isSignMinus, isFinite}
+use Rattle.arithmetic.specs.Laws.Times.{Times, num-positive}
+use Rattle.arithmetic.specs.Laws.Compare.{lt-is, not-le, above-zero}
+use Rattle.arithmetic.specs.Laws.Products.{div-is}
+use Rattle.arithmetic.specs.Laws.Quotients.{over-positive}
+use Rattle.arithmetic.specs.Laws.Sizes.{round-minus}
+use Rattle.arithmetic.specs.Laws.ScaledProducts.{quotient-times}
+use Rattle.arithmetic.specs.Laws.Zeros.{equal-same}
+use Rattle.bs_option_price.specs.Laws.Moneyness.{BoundedRatio}
+use Rattle.explicit_black.specs.Counted.{Counted, atOnce}
+use Rattle.explicit_black.specs.Quote.{Outcome, refused, fromQuote}
+use Rattle.explicit_black.specs.Discount.{discountedRefusal, fromDiscountedQuote, impliedBlackVolatilityDiscounted}
+use Rattle.explicit_black.specs.Price.{BothAboveOrZero}
+use Rattle.explicit_black.specs.Demand.{fourUp, fourDown, Exactly, ComparablePair, ComparableFigures, ComparableTimes, compared}
+use Rattle.explicit_black.specs.Laws.ZeroPrice.{IsZero, round-is-zero, zero-not-below}
+use Rattle.explicit_black.specs.Laws.Price.{times-up, times-down, flipped}
+use Rattle.explicit_black.specs.Laws.Demand.{TimeTested, times-tested, above-plusZero, Related, related-times, vanish, upward, downward}
+use Rattle.explicit_black.specs.Laws.Demand.{ComparableValues, clear-or-zero, same-outcome, other-outcome, comparable-ratio}
+use Rattle.explicit_black.specs.Laws.Discount.{DiscountedDomain, discounted-passed, divided-outcome, compared-discounted}
+
+-- ---- a price over a factor
+dividend-finite : (p d : Float) → T (finite (p ⊘ d)) → T (finite p)
+unfolding div
+dividend-finite nan d h = absurd h
+dividend-finite (inf s) nan h = absurd h
+dividend-finite (inf s) (inf t) h = absurd h
+dividend-finite (inf s) (fin t n e) h = absurd h
+dividend-finite (fin s m e) d h = tt
+
+at-least-zero : (v : Float) → T (finite v) → (isSignMinus v ≡ false) ⊎ (num v ≡ 0) → T (le plusZero v)
+unfolding ofBits
+at-least-zero v p (inr z) = subst T (sym (zero-not-below v (record { bounded = p; vanishes = z }))) tt
+at-least-zero v p (inl s) = go (le plusZero v) refl
+  where
+    not-under : (a b c : ℕ) → b ≡ 0 * c → T (ltb a b) → ⊥
+    not-under a b c e t = let l = ltb→lt a b t in omega (arith, zero-mul c)
+
+    below-zero : lt v plusZero ≡ true → ⊥
+    below-zero l = not-under (num v * 1) (0 * den v) (den v) refl (subst T (sym (ap (λ (b : Bool). below b (num v * 1) false (0 * den v)) (sym s) ∙ sym (lt-is v plusZero p tt) ∙ l)) tt)
+
+    go : (b : Bool) → le plusZero v ≡ b → T (le plusZero v)
+    go true e = subst T (sym e) tt
+    go false e = absurd (below-zero (not-le plusZero v tt p e))
+
+module _ (p d : Float) (P : T (finite p)) (D : T (positive d)) where
+  quotient-zero : num p ≡ 0 → num (p ⊘ d) ≡ 0
+  quotient-zero z =
+      ap num (over-positive p d P D)
+      ∙ round-is-zero (isSignMinus p) (num p * den d) (num d * den p) (mul-pos (num-positive d D) (den-pos p)) (rw z (zero-mul (den d))) .vanishes
+
+  quotient-not-negative : T (le plusZero p) → T (finite (p ⊘ d)) → T (le plusZero (p ⊘ d))
+  quotient-not-negative h q = at-least-zero (p ⊘ d) q (go (clear-or-zero p P h))
+    where
+      go : (isSignMinus p ≡ false) ⊎ (num p ≡ 0) → (isSignMinus (p ⊘ d) ≡ false) ⊎ (num (p ⊘ d) ≡ 0)
+      go (inl c) = inl (ap isSignMinus (over-positive p d P D) ∙ round-minus (isSignMinus p) _ _ ∙ c)
+      go (inr z) = inr (quotient-zero z)
+
+divisor-not-zero : (p d : Float) → T (finite d) → T (finite (p ⊘ d)) → num d ≡ 0 → ⊥
+divisor-not-zero p d D q z =
+    go (eqb (num p) 0) (rw (div-is binary64 p d (dividend-finite p d q) D, eq-eqb (num d) 0 z) at q)
+  where
+    go : (i : Bool) → T (finite (cond i nan (inf (unlike (isSignMinus p) (isSignMinus d))))) → ⊥
+    go true h = absurd h
+    go false h = absurd h
+
+-- two factors that are equal are the same, where they have a finite quotient
+equal-factors : (p d d' : Float) → T (fits binary64 d) → T (fits binary64 d') → T (finite (p ⊘ d)) → T (eq d d') → d' ≡ d
+unfolding eq
+equal-factors p nan d' F F' q e = absurd e
+equal-factors p (inf s) nan F F' q e = absurd e
+equal-factors p (inf true) (inf true) F F' q e = refl
+equal-factors p (inf true) (inf false) F F' q e = absurd e
+equal-factors p (inf false) (inf true) F F' q e = absurd e
+equal-factors p (inf false) (inf false) F F' q e = refl
+equal-factors p (inf s) (fin t n x) F F' q e = absurd e
+equal-factors p (fin s m x) nan F F' q e = absurd e
+equal-factors p (fin s m x) (inf t) F F' q e = absurd e
+equal-factors p (fin s m x) (fin t n y) F F' q e = sym (equal-same (fin s m x) (fin t n y) F F' tt tt e (divisor-not-zero p (fin s m x) tt q))
+
+-- ---- raw prices that are exactly 4 ^ n times each other, over a factor above 0: so are the quotients, where both are above 2 ^ -1022 or both are 0
+module _ (p p' d : Float) (D : T (positive d)) where
+  zeros-exactly : (n : ℤ) → T (finite (p ⊘ d)) → T (finite (p' ⊘ d)) → num (p ⊘ d) ≡ 0 → num (p' ⊘ d) ≡ 0 → Exactly n (p ⊘ d) (p' ⊘ d)
+  zeros-exactly n q q' z z' = record { finite-x = q; finite-y = q'; fraction = rw (z, z') (zeros (den (p ⊘ d)) (den (p' ⊘ d)) (fourDown n) (fourUp n)); signs = inl z }
+    where
+      zeros : (a b c e : ℕ) → 0 * a * c ≡ 0 * b * e
+      zeros a b c e = rw (zero-mul a, zero-mul b, zero-mul c, zero-mul e)
+
+pub divided-exactly : (n : ℤ) (p p' d : Float) → T (positive d) → Exactly n p p' → BothAboveOrZero (p ⊘ d) (p' ⊘ d) → Exactly n (p ⊘ d) (p' ⊘ d)
+divided-exactly n p p' d D e h = go n e
+  where
+    P : T (finite p)
+    P = dividend-finite p d (h .first-finite)
+
+    P' : T (finite p')
+    P' = dividend-finite p' d (h .second-finite)
+
+    vanishing : (n : ℤ) → num p ≡ 0 → num p' ≡ 0 → Exactly n (p ⊘ d) (p' ⊘ d)
+    vanishing n z z' = zeros-exactly p p' d D n (h .first-finite) (h .second-finite) (quotient-zero p d P D z) (quotient-zero p' d P' D z')
+
+    one-above : {A B C : Type 0} → (A × B) ⊎ C → A ⊎ C
+    one-above (inl (a, b)) = inl a
+    one-above (inr c) = inr c
+
+    up : (n : ℕ) → Related (n + n) p p' → Exactly (pos n) (p ⊘ d) (p' ⊘ d)
+    up n (vanish z z') = vanishing (pos n) z z'
+    up n (related-times g) =
+        times-up n _ _ (quotient-times (n + n) p p' d g D (h .first-finite) (h .second-finite) (one-above (h .above-or-zero)))
+
+    down : (n : ℕ) → Related (suc n + suc n) p' p → Exactly (negsuc n) (p ⊘ d) (p' ⊘ d)
+    down n (vanish z z') = vanishing (negsuc n) z' z
+    down n (related-times g) =
+        times-down n _ _
+        (quotient-times (suc n + suc n) p' p d g D (h .second-finite) (h .first-finite) (one-above (flipped (p ⊘ d) (p' ⊘ d) h .above-or-zero)))
+
+    go : (n : ℤ) → Exactly n p p' → Exactly n (p ⊘ d) (p' ⊘ d)
+    go (pos n) e = up n (upward n p p' e)
+    go (negsuc n) e = down n (downward n p p' e)
+
+-- ---- the first refusal of quotes within the limits of demand 3: by the side and the factor alone
+abbrev numberBy : Bool → Float → ℕ
+numberBy side d = cond (not side) 1 (cond (not (isFinite d)) 2 (cond (not (lt plusZero d)) 15 0))
+
+number-by : (side : ℕ) (p f k t d : Float) (z : Bool) → T (finite p) → BoundedRatio f k → TimeTested t z
+    → discountedRefusal side p f k t d ≡ numberBy (eqb side 0 || eqb side 1) d
+unfolding discountedRefusal
+number-by side p f k t d z P h w =
+    rw (
+      is-true (finite p) P,
+      is-true (finite f) (h .forward .bounded),
+      is-true (finite k) (h .strike .bounded),
+      w .finite-time,
+      above-plusZero f (h .forward),
+      above-plusZero k (h .strike),
+      w .no-less,
+    )
+
+-- ---- two quotes with one factor whose first refusals are one: they agree where the quotes of the divided prices do
+agree : (side side' : ℕ) (p f k t p' f' k' t' d : Float) → T (finite (p ⊘ d)) → T (finite (p' ⊘ d))
+    → discountedRefusal side' p' f' k' t' d ≡ discountedRefusal side p f k t d
+    → (T (positive d) → fromQuote side' (p' ⊘ d) f' k' t' ≡ fromQuote side (p ⊘ d) f k t)
+    → fromDiscountedQuote side' p' f' k' t' d ≡ fromDiscountedQuote side p f k t d
+agree side side' p f k t p' f' k' t' d q q' e same = go (discountedRefusal side p f k t d) refl
+  where
+    go : (n : ℕ) → discountedRefusal side p f k t d ≡ n → fromDiscountedQuote side' p' f' k' t' d ≡ fromDiscountedQuote side p f k t d
+    go zero i =
+        let h = discounted-passed side p f k t d i in
+        let h' = discounted-passed side' p' f' k' t' d (e ∙ i) in
+        divided-outcome side' p' f' k' t' d h' (is-true (finite (p' ⊘ d)) q')
+        ∙ same (above-zero d (subst T (sym (h .factor-finite)) tt) (h .factor-above))
+        ∙ sym (divided-outcome side p f k t d h (is-true (finite (p ⊘ d)) q))
+    go (suc n) i = unfold fromDiscountedQuote in rw (e, i, eqb·suc-zero n)
+
+-- ---- demand 3 for values of binary64: where the factor is above 0, the divided prices are not negative and scale exactly
+module _ (n : ℤ) (p f k t p' f' k' t' d : Float) (h : BoundedRatio f k) (h' : BoundedRatio f' k') (w : ComparableTimes t t')
+    (q : T (finite (p ⊘ d))) (q' : T (finite (p' ⊘ d)))
+    (s : T (positive d) → T (le plusZero (p ⊘ d)) × T (le plusZero (p' ⊘ d)) × Exactly n (p ⊘ d) (p' ⊘ d)) where
+  numbers : (side side' : ℕ) → (eqb side' 0 || eqb side' 1) ≡ (eqb side 0 || eqb side 1)
+      → discountedRefusal side' p' f' k' t' d ≡ discountedRefusal side p f k t d
+  numbers side side' e =
+      let (z, u, v) = times-tested t t' w in
+      number-by side' p' f' k' t' d z (dividend-finite p' d q') h' v
+      ∙ ap (λ (b : Bool). numberBy b d) e
+      ∙ sym (number-by side p f k t d z (dividend-finite p d q) h u)
+
+  values : T (positive d) → ComparableValues (p ⊘ d) f k
+  values D = record { held = div-fits binary64 p d; bounded = q; not-negative = s D .0; pair = h }
+
+  values' : T (positive d) → ComparableValues (p' ⊘ d) f' k'
+  values' D = record { held = div-fits binary64 p' d; bounded = q'; not-negative = s D .1; pair = h' }
+
+  same-discounted : (side : ℕ) → Exactly n f f' → Exactly n k k' → fromDiscountedQuote side p' f' k' t' d ≡ fromDiscountedQuote side p f k t d
+  same-discounted side g i =
+      agree side side p f k t p' f' k' t' d q q' (numbers side side refl)
+      (λ D. same-outcome (p ⊘ d) f k t (p' ⊘ d) f' k' t' (values D) (values' D) w n side (s D .2) g i)
+
+  other-discounted : Exactly n k f' → Exactly n f k' → (fromDiscountedQuote 1 p' f' k' t' d ≡ fromDiscountedQuote 0 p f k t d)
+      × (fromDiscountedQuote 0 p' f' k' t' d ≡ fromDiscountedQuote 1 p f k t d)
+  other-discounted g i =
+      (agree 0 1 p f k t p' f' k' t' d q q' (numbers 0 1 refl) (λ D. both D .0), agree 1 0 p f k t p' f' k' t' d q q' (numbers 1 0 refl) (λ D. both D .1))
+    where
+      both : T (positive d) → (fromQuote 1 (p' ⊘ d) f' k' t' ≡ fromQuote 0 (p ⊘ d) f k t) × (fromQuote 0 (p' ⊘ d) f' k' t' ≡ fromQuote 1 (p ⊘ d) f k t)
+      both D = other-outcome (p ⊘ d) f k t (p' ⊘ d) f' k' t' (values D) (values' D) w n (s D .2) g i
+
+-- ---- DEMAND 3, for figures of any bits, factors included
+
+-- what is compared of a quote with figures of these bits
+abbrev pub discountedAtBits : ℕ → ℕ → ℕ → ℕ → ℕ → ℕ → Counted Outcome
+discountedAtBits side p f k t d = compared (impliedBlackVolatilityDiscounted side (bits p) (bits f) (bits k) (bits t) (bits d))
+
+-- what the two quotes agree on
+pub record Agree (n : ℤ) (p f k t d p' f' k' t' d' : ℕ) : Type 0 where
+  -- The second has the first's side, whatever number that is, and its forward and strike are exactly 4 ^ n times the first's.
+  pub same-side : (side : ℕ) → Exactly n (bits f) (bits f') → Exactly n (bits k) (bits k') → discountedAtBits side p' f' k' t' d' ≡ discountedAtBits side p f k t d
+  -- The first is a call or a put, and the second is on the other side, with forward and strike exactly 4 ^ n times the first's strike and forward.
+  pub other-side : Exactly n (bits k) (bits f') → Exactly n (bits f) (bits k')
+      → (discountedAtBits 1 p' f' k' t' d' ≡ discountedAtBits 0 p f k t d) × (discountedAtBits 0 p' f' k' t' d' ≡ discountedAtBits 1 p f k t d)
+
+module _ (n : ℤ) (p f k t d p' f' k' t' d' : ℕ) (w : ComparableTimes (bits t) (bits t')) (e : T (eq (bits d) (bits d'))) where
+  abbrev first : Float
+  first = bits p ⊘ bits d
+
+  abbrev second : Float
+  second = bits p' ⊘ bits d'
+
+  same-factor : T (finite first) → bits d' ≡ bits d
+  same-factor q = equal-factors (bits p) (bits d) (bits d') (ofBits-fits binary64 d) (ofBits-fits binary64 d') q e
+
+  module _ (h : ComparablePair (bits f) (bits k)) (h' : ComparablePair (bits f') (bits k')) (q : T (finite first)) (q' : T (finite second))
+      (s : T (positive (bits d)) → T (positive (bits d')) → T (le plusZero first) × T (le plusZero second) × Exactly n first second) where
+    same : bits d' ≡ bits d
+    same = same-factor q
+
+    agree-by : Agree n p f k t d p' f' k' t' d'
+    agree-by = record {
+      same-side = λ side g i. is' side ∙ scaled side g i ∙ sym (is side);
+      other-side = λ g i. let r = other g i in (is' 1 ∙ r .0 ∙ sym (is 0), is' 0 ∙ r .1 ∙ sym (is 1));
+    }
+      where
+        is : (side : ℕ) → discountedAtBits side p f k t d ≡ fromDiscountedQuote side (bits p) (bits f) (bits k) (bits t) (bits d)
+        is side = compared-discounted side (bits p) (bits f) (bits k) (bits t) (bits d)
+
+        is' : (side : ℕ) → discountedAtBits side p' f' k' t' d' ≡ fromDiscountedQuote side (bits p') (bits f') (bits k') (bits t') (bits d)
+        is' side =
+            compared-discounted side (bits p') (bits f') (bits k') (bits t') (bits d')
+            ∙ ap (fromDiscountedQuote side (bits p') (bits f') (bits k') (bits t')) same
+
+        terms : T (positive (bits d)) → T (le plusZero first) × T (le plusZero (bits p' ⊘ bits d)) × Exactly n first (bits p' ⊘ bits d)
+        terms D = rw same at (s D (subst (λ (x : Float). T (positive x)) (sym same) D))
+
+        scaled : (side : ℕ) → Exactly n (bits f) (bits f') → Exactly n (bits k) (bits k')
+            → fromDiscountedQuote side (bits p') (bits f') (bits k') (bits t') (bits d) ≡ fromDiscountedQuote side (bits p) (bits f) (bits k) (bits t) (bits d)
+        scaled = same-discounted n (bits p) (bits f) (bits k) (bits t) (bits p') (bits f') (bits k') (bits t') (bits d) (comparable-ratio f k h)
+            (comparable-ratio f' k' h') w q (rw same at q') terms
+
+        other : Exactly n (bits k) (bits f') → Exactly n (bits f) (bits k')
+            → (fromDiscountedQuote 1 (bits p') (bits f') (bits k') (bits t') (bits d) ≡ fromDiscountedQuote 0 (bits p) (bits f) (bits k) (bits t) (bits d))
+            × (fromDiscountedQuote 0 (bits p') (bits f') (bits k') (bits t') (bits d) ≡ fromDiscountedQuote 1 (bits p) (bits f) (bits k) (bits t) (bits d))
+        other = other-discounted n (bits p) (bits f) (bits k) (bits t) (bits p') (bits f') (bits k') (bits t') (bits d) (comparable-ratio f k h)
+            (comparable-ratio f' k' h') w q (rw same at q') terms
+
+  module _ (h : ComparableFigures (bits p) (bits f) (bits k)) (h' : ComparableFigures (bits p') (bits f') (bits k')) where
+    not-negative : T (finite first) → T (finite second) → T (positive (bits d)) → T (positive (bits d')) → T (le plusZero first) × T (le plusZero second)
+    not-negative q q' D D' = (
+      quotient-not-negative (bits p) (bits d) (h .price-finite) D (h .price-not-negative) q,
+      quotient-not-negative (bits p') (bits d') (h' .price-finite) D' (h' .price-not-negative) q',
+    )
+
+    -- The divided prices scale exactly; of price, forward, strike and time what demand 3 asks.
+    pub discounted-agree : Exactly n first second → Agree n p f k t d p' f' k' t' d'
+    discounted-agree x =
+        agree-by (h .pair) (h' .pair) (x .finite-x) (x .finite-y)
+        (λ D D'. let z = not-negative (x .finite-x) (x .finite-y) D D' in (z .0, z .1, x))
+
+    -- The prices themselves scale exactly, and both quotients are above 2 ^ -1022, or both are 0.
+    pub scaled-agree : Exactly n (bits p) (bits p') → BothAboveOrZero first second → Agree n p f k t d p' f' k' t' d'
+    scaled-agree x b =
+        let c = same-factor (b .first-finite) in
+        agree-by (h .pair) (h' .pair) (b .first-finite) (b .second-finite)
+        (λ D D'. let z = not-negative (b .first-finite) (b .second-finite) D D' in
+        (z .0, z .1, rw c (divided-exactly n (bits p) (bits p') (bits d) D x (rw c at b))))
+
+  -- The divided prices scale exactly; of the divided price, forward, strike and time what demand 3 asks. The price may be below 0 here, where the quotient
+  -- is minus zero.
+  pub divided-agree : ComparableFigures first (bits f) (bits k) → ComparableFigures second (bits f') (bits k') → Exactly n first second
+      → Agree n p f k t d p' f' k' t' d'
+  divided-agree h h' x = agree-by (h .pair) (h' .pair) (x .finite-x) (x .finite-y) (λ D D'. (h .price-not-negative, h' .price-not-negative, x))

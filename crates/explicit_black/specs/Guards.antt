@@ -1,5 +1,5 @@
--- The two branches of `from_call_price` on its probability, `probability <= 0` and `probability >= 1` (REQUIREMENTS 14.2): the entries of Quote.antt with a
--- function `by` of probability and mu in place of these branches and the search that follows them. Definitions only.
+-- The two branches of `from_call_price` on its probability, `probability <= 0` and `probability >= 1` (REQUIREMENTS 14.2): the entries of Quote.antt and
+-- Discount.antt with a function `by` of probability and mu in place of these branches and the search that follows them. Definitions only.
 use mathlib.Core.Bool.{_&&_, cond}
 use Prim.Native.Nat.{ℕ}
 use lib.Dec.{eqb}
@@ -14,6 +14,7 @@ use Rattle.explicit_black.specs.Quantile.{inverseGaussianQuantile}
 use Rattle.explicit_black.specs.Survival.{inverseGaussianQuantileFromSurvival}
 use Rattle.explicit_black.specs.Quote.{Outcome, total, refused, Reply, reply, atTheMoney, searched}
 use Rattle.explicit_black.specs.Quote.{firstRefusal, intrinsicValue, priceBound, normalisedTimeValue, boundTests}
+use Rattle.explicit_black.specs.Discount.{discountedRefusal}
 
 -- the two branches, with `low` and `high` for what they hand back, then the search
 abbrev pub guardedWith : Counted Outcome → Counted Outcome → Float → Float → Counted Outcome
@@ -62,13 +63,19 @@ fromTimeValueBy by logMoneyness timeValue =
     cond (le timeValue minPositive) (atOnce (cond (le plusZero timeValue) (total plusZero) (refused 7)))
     (fromNormalisedPriceBy by logMoneyness timeValue)
 
-unfoldable pub impliedBlackVolatilityInputBy : (Float → Float → Counted Outcome) → ℕ → Float → Float → Float → Float → Reply
-impliedBlackVolatilityInputBy by side price forward strike time =
-    let number = firstRefusal side price forward strike time in
+abbrev pub fromFiguresBy : (Float → Float → Counted Outcome) → ℕ → Float → Float → Float → Float → Counted Outcome
+fromFiguresBy by side price forward strike time =
     let intrinsic = intrinsicValue side forward strike in
     let bound = priceBound side forward strike in
     let timeValue = normalisedTimeValue price intrinsic (sqrt forward ⊗ sqrt strike) in
-    reply time
-    (cond (eqb number 0)
-    (orElse (boundTests price intrinsic bound time) (fromTimeValueBy by (negativeAbsLogMoneyness forward strike) timeValue))
-    (atOnce (refused number)))
+    orElse (boundTests price intrinsic bound time) (fromTimeValueBy by (negativeAbsLogMoneyness forward strike) timeValue)
+
+unfoldable pub impliedBlackVolatilityInputBy : (Float → Float → Counted Outcome) → ℕ → Float → Float → Float → Float → Reply
+impliedBlackVolatilityInputBy by side price forward strike time =
+    let number = firstRefusal side price forward strike time in
+    reply time (cond (eqb number 0) (fromFiguresBy by side price forward strike time) (atOnce (refused number)))
+
+unfoldable pub impliedBlackVolatilityDiscountedBy : (Float → Float → Counted Outcome) → ℕ → Float → Float → Float → Float → Float → Reply
+impliedBlackVolatilityDiscountedBy by side price forward strike time factor =
+    let number = discountedRefusal side price forward strike time factor in
+    reply time (cond (eqb number 0) (fromFiguresBy by side (price ⊘ factor) forward strike time) (atOnce (refused number)))

@@ -9,10 +9,10 @@ pub mod Newton
 pub mod Quantile
 pub mod Survival
 pub mod Quote
-pub mod Discount
 pub mod Price
 pub mod Replies
 pub mod Demand
+pub mod Discount
 pub mod Guards
 pub mod Infinite
 pub mod Internal

@@ -209,7 +209,7 @@ clear-or-zero (fin true m e) b h =
     let same : a ≡ c = eqb→eq a c (and-l (eqb a c) (false || eqb a 0) h) in
     inr (sym (mul-one (m * up e)) ∙ sym same ∙ zero-mul (down e))
 
-zero-after-tests : (call : Bool) (p f k t : Float) → T (fits binary64 p) → T (finite p) → num p ≡ 0
+pub zero-after-tests : (call : Bool) (p f k t : Float) → T (fits binary64 p) → T (finite p) → num p ≡ 0
     → afterTests call p f k t ≡ afterTests call (zeroOf false) f k t
 zero-after-tests call p f k t F b e =
     let s = isSignMinus p in

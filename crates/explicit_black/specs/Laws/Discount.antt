@@ -10,9 +10,9 @@ use lib.Ieee.{Float, nan, inf, fin, binary64, fits, sub, div, lt, le, eq, isNan,
 use lib.Ieee.Scale.{finite}
 use lib.Ieee.Positive.{positive, positive-finite}
 use Rattle.arithmetic.specs.Operations.{_⊖_, _⊗_, _⊘_, plusZero, one}
-use Rattle.arithmetic.specs.Basic.{max, takesFirst, isFinite}
+use Rattle.arithmetic.specs.Basic.{abs, max, takesFirst, isFinite}
 use Rattle.arithmetic.specs.Sqrt.{sqrt}
-use Rattle.arithmetic.specs.Laws.Choices.{in-both}
+use Rattle.arithmetic.specs.Laws.Choices.{in-both, never}
 use Rattle.arithmetic.specs.Laws.Compare.{finite-no-nan}
 use Rattle.arithmetic.specs.Laws.Extremes.{max-is}
 use Rattle.arithmetic.specs.Laws.Quotients.{div-no-nan, over-one}
@@ -20,13 +20,14 @@ use Rattle.arithmetic.specs.Laws.SqrtBounds.{roots-positive}
 use Rattle.bs_option_price.specs.BsOptionPrice.{negativeAbsLogMoneyness}
 use Rattle.bs_option_price.specs.Laws.MoneynessBounds.{PositiveValue}
 use Rattle.explicit_black.specs.Counted.{Counted, atOnce}
-use Rattle.explicit_black.specs.Quote.{Outcome, refused, refusal, reply, firstRefusal, intrinsicValue, priceBound, normalisedTimeValue}
+use Rattle.explicit_black.specs.Quote.{Outcome, refused, answer, refusal, reply, firstRefusal, intrinsicValue, priceBound, normalisedTimeValue}
 use Rattle.explicit_black.specs.Quote.{fromTimeValue, fromFigures, fromQuote, impliedBlackVolatilityInput}
 use Rattle.explicit_black.specs.Discount.{discountedRefusal, fromDiscountedQuote, impliedBlackVolatilityDiscounted}
 use Rattle.explicit_black.specs.Demand.{compared}
 use Rattle.explicit_black.specs.Laws.Tests.{from-price-is}
 use Rattle.explicit_black.specs.Laws.Quote.{Domain, firstOf, passed, domain-passes, first-refusal-le, figures-kind, by-number}
 use Rattle.explicit_black.specs.Laws.Quote.{OneToNine, FactsOf, kind-facts, refused-facts, kind-count, FiguresAreNumbers, kind-numbers, compared-reply}
+use Rattle.explicit_black.specs.Laws.Quote.{kind-refused, NoSearch, money-figures}
 use Rattle.explicit_black.specs.Laws.Kinds.{Kind}
 use Rattle.explicit_black.specs.Laws.PriceNumbers.{above-positive, intrinsic-finite}
 
@@ -186,10 +187,24 @@ module _ (side : ℕ) (p f k t d : Float) where
       by-discounted-refusal (λ c. FiguresAreNumbers (reply t c))
       (λ h c. kind-numbers t c (h .figures .time-finite) (h .figures .time-not-below) F) (λ m h. tt)
 
+  -- at the money nothing is searched for
+  pub discounted-money : eq (abs (negativeAbsLogMoneyness f k)) plusZero ≡ true → compared (impliedBlackVolatilityDiscounted side p f k t d) .count ≡ 0
+  unfolding fromDiscountedQuote
+  discounted-money e =
+      ap (λ c. c .count) compared-discounted
+      ∙ in-both NoSearch (eqb (discountedRefusal side p f k t d) 0) (money-figures side (p ⊘ d) f k t e) refl
+
   -- ---- THE DIVIDED PRICE is what is solved
   past-tests : DiscountedDomain side p f k t d → fromDiscountedQuote side p f k t d ≡ fromFigures side (p ⊘ d) f k t
   unfolding fromDiscountedQuote
   past-tests h = rw (discounted-passes h)
+
+  -- a refusal past tests 1 to 4 and 15 is one of 5 to 9
+  pub discounted-domain-refusals : DiscountedDomain side p f k t d → (m : ℕ)
+      → compared (impliedBlackVolatilityDiscounted side p f k t d) .result ≡ refused m → (5 ≤ m) × (m ≤ 9)
+  discounted-domain-refusals h m e =
+      let q = kind-refused _ m (lit≤ tt) (figures-kind side (p ⊘ d) f k t) (sym (ap (λ c. c .result) (compared-discounted ∙ past-tests h)) ∙ e) in
+      (q .0, q .1)
 
   divided-domain : DiscountedDomain side p f k t d → isFinite (p ⊘ d) ≡ true → Domain side (p ⊘ d) f k t
   divided-domain h q =
@@ -278,6 +293,22 @@ module _ (side : ℕ) (p f k t d : Float) where
         sign : (s : Bool) → _≡_ {A = ℕ} (cond s 7 6) (cond (lt plusZero (inf s)) 6 7)
         sign true = refl
         sign false = refl
+
+  -- ---- AN ANSWER is that of the divided price
+  pub divided-answer : T (fits binary64 f) → T (fits binary64 k) → (v w : Float) (count : ℕ)
+      → impliedBlackVolatilityDiscounted side p f k t d ≡ answer v w count → impliedBlackVolatilityInput side (p ⊘ d) f k t ≡ answer v w count
+  divided-answer F K v w count e = first (discountedRefusal side p f k t d) refl
+    where
+      second : DiscountedDomain side p f k t d → (b : Bool) → isFinite (p ⊘ d) ≡ b → impliedBlackVolatilityInput side (p ⊘ d) f k t ≡ answer v w count
+      second h true i = sym (divided-reply h i) ∙ e
+      second h false i = let r = overflow-refused F K h i in never (cc)
+
+      first : (n : ℕ) → discountedRefusal side p f k t d ≡ n → impliedBlackVolatilityInput side (p ⊘ d) f k t ≡ answer v w count
+      first zero i = second (discounted-passed i) (isFinite (p ⊘ d)) refl
+      first (suc n) i =
+          let r : impliedBlackVolatilityDiscounted side p f k t d ≡ refusal (suc n) 0 =
+          unfold impliedBlackVolatilityDiscounted fromDiscountedQuote in rw (i, eqb·suc-zero n) in
+          never (cc)
 
 -- ---- FACTOR 1: the reply of the quote without a factor, whatever the bits of its figures
 module _ (side : ℕ) (p f k t : Float) (P : T (fits binary64 p)) where

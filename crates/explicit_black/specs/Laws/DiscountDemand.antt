@@ -1,6 +1,6 @@
 -- Demand 3 for quotes with discount factors (REQUIREMENTS 14.7): a quote, and one whose factor is equal and whose divided price, forward and strike are
 -- exactly 4 ^ n times its own, on the same side or exchanged, have one total volatility or refusal number, and one count. And where raw prices that are
--- exactly 4 ^ n times each other have such divided prices. Assumes nothing.
+-- exactly 4 ^ n times each other have such divided prices; and minus zero as price. Assumes nothing.
 use mathlib.Core.Path.{_≡_, refl, sym, ap, _∙_, subst}
 use mathlib.Core.Logic.{_⊎_, inl, inr}
 use Prim.Native.Nat.{ℕ, zero, suc, _+_, _*_}
@@ -23,17 +23,17 @@ use Rattle.arithmetic.specs.Laws.Products.{div-is}
 use Rattle.arithmetic.specs.Laws.Quotients.{over-positive}
 use Rattle.arithmetic.specs.Laws.Sizes.{round-minus}
 use Rattle.arithmetic.specs.Laws.ScaledProducts.{quotient-times}
-use Rattle.arithmetic.specs.Laws.Zeros.{equal-same}
+use Rattle.arithmetic.specs.Laws.Zeros.{zeroOf, equal-same}
 use Rattle.bs_option_price.specs.Laws.Moneyness.{BoundedRatio}
 use Rattle.explicit_black.specs.Counted.{Counted, atOnce}
-use Rattle.explicit_black.specs.Quote.{Outcome, refused, fromQuote}
-use Rattle.explicit_black.specs.Discount.{discountedRefusal, fromDiscountedQuote, impliedBlackVolatilityDiscounted}
+use Rattle.explicit_black.specs.Quote.{Outcome, refused, reply, fromFigures, fromQuote}
 use Rattle.explicit_black.specs.Price.{BothAboveOrZero}
-use Rattle.explicit_black.specs.Demand.{fourUp, fourDown, Exactly, ComparablePair, ComparableFigures, ComparableTimes, compared}
-use Rattle.explicit_black.specs.Laws.ZeroPrice.{IsZero, round-is-zero, zero-not-below}
+use Rattle.explicit_black.specs.Demand.{fourUp, fourDown, Exactly, ComparablePair, ComparableFigures, ComparableTimes}
+use Rattle.explicit_black.specs.Discount.{discountedRefusal, fromDiscountedQuote, impliedBlackVolatilityDiscounted, discountedAtBits, Agree}
+use Rattle.explicit_black.specs.Laws.ZeroPrice.{IsZero, round-is-zero, zero-not-below, minusZero}
 use Rattle.explicit_black.specs.Laws.Price.{times-up, times-down, flipped}
 use Rattle.explicit_black.specs.Laws.Demand.{TimeTested, times-tested, above-plusZero, Related, related-times, vanish, upward, downward}
-use Rattle.explicit_black.specs.Laws.Demand.{ComparableValues, clear-or-zero, same-outcome, other-outcome, comparable-ratio}
+use Rattle.explicit_black.specs.Laws.Demand.{ComparableValues, clear-or-zero, zero-after-tests, same-outcome, other-outcome, comparable-ratio}
 use Rattle.explicit_black.specs.Laws.Discount.{DiscountedDomain, discounted-passed, divided-outcome, compared-discounted}
 
 -- ---- a price over a factor
@@ -201,18 +201,6 @@ module _ (n : ℤ) (p f k t p' f' k' t' d : Float) (h : BoundedRatio f k) (h' : 
 
 -- ---- DEMAND 3, for figures of any bits, factors included
 
--- what is compared of a quote with figures of these bits
-abbrev pub discountedAtBits : ℕ → ℕ → ℕ → ℕ → ℕ → ℕ → Counted Outcome
-discountedAtBits side p f k t d = compared (impliedBlackVolatilityDiscounted side (bits p) (bits f) (bits k) (bits t) (bits d))
-
--- what the two quotes agree on
-pub record Agree (n : ℤ) (p f k t d p' f' k' t' d' : ℕ) : Type 0 where
-  -- The second has the first's side, whatever number that is, and its forward and strike are exactly 4 ^ n times the first's.
-  pub same-side : (side : ℕ) → Exactly n (bits f) (bits f') → Exactly n (bits k) (bits k') → discountedAtBits side p' f' k' t' d' ≡ discountedAtBits side p f k t d
-  -- The first is a call or a put, and the second is on the other side, with forward and strike exactly 4 ^ n times the first's strike and forward.
-  pub other-side : Exactly n (bits k) (bits f') → Exactly n (bits f) (bits k')
-      → (discountedAtBits 1 p' f' k' t' d' ≡ discountedAtBits 0 p f k t d) × (discountedAtBits 0 p' f' k' t' d' ≡ discountedAtBits 1 p f k t d)
-
 module _ (n : ℤ) (p f k t d p' f' k' t' d' : ℕ) (w : ComparableTimes (bits t) (bits t')) (e : T (eq (bits d) (bits d'))) where
   abbrev first : Float
   first = bits p ⊘ bits d
@@ -282,3 +270,32 @@ module _ (n : ℤ) (p f k t d p' f' k' t' d' : ℕ) (w : ComparableTimes (bits t
   pub divided-agree : ComparableFigures first (bits f) (bits k) → ComparableFigures second (bits f') (bits k') → Exactly n first second
       → Agree n p f k t d p' f' k' t' d'
   divided-agree h h' x = agree-by (h .pair) (h' .pair) (x .finite-x) (x .finite-y) (λ D D'. (h .price-not-negative, h' .price-not-negative, x))
+
+-- ---- MINUS ZERO AS PRICE IS ZERO, for a side of any number and other figures of any bits, the factor too: the replies are the same
+zero-divided : (side : ℕ) (s : Bool) (f k t d : Float) → T (positive d) → fromFigures side (zeroOf s ⊘ d) f k t ≡ fromFigures side (zeroOf false) f k t
+zero-divided side s f k t d D =
+    let q = over-positive (zeroOf s) d tt D in
+    let z : IsZero (zeroOf s ⊘ d) =
+    subst IsZero (sym q) (round-is-zero s (0 * den d) (num d * 1) (mul-pos (num-positive d D) (den-pos (zeroOf s))) (zero-mul (den d))) in
+    zero-after-tests (eqb side 0) (zeroOf s ⊘ d) f k t (div-fits binary64 (zeroOf s) d) (z .bounded) (z .vanishes)
+
+zeros-alike : (side : ℕ) (f k t d : Float) → fromDiscountedQuote side (zeroOf true) f k t d ≡ fromDiscountedQuote side (zeroOf false) f k t d
+unfolding fromDiscountedQuote
+zeros-alike side f k t d = rw same (go (discountedRefusal side (zeroOf false) f k t d) refl)
+  where
+    same : discountedRefusal side (zeroOf true) f k t d ≡ discountedRefusal side (zeroOf false) f k t d
+    same = unfold discountedRefusal in refl
+
+    go : (n : ℕ) → discountedRefusal side (zeroOf false) f k t d ≡ n
+        → cond (eqb n 0) (fromFigures side (zeroOf true ⊘ d) f k t) (atOnce (refused n))
+        ≡ cond (eqb n 0) (fromFigures side (zeroOf false ⊘ d) f k t) (atOnce (refused n))
+    go zero i =
+        let h = discounted-passed side (zeroOf false) f k t d i in
+        let D = above-zero d (subst T (sym (h .factor-finite)) tt) (h .factor-above) in
+        zero-divided side true f k t d D ∙ sym (zero-divided side false f k t d D)
+    go (suc n) i = rw (eqb·suc-zero n)
+
+pub discounted-of-minus-zero : (side : ℕ) (f k t d : Float)
+    → impliedBlackVolatilityDiscounted side minusZero f k t d ≡ impliedBlackVolatilityDiscounted side plusZero f k t d
+unfolding impliedBlackVolatilityDiscounted ofBits
+discounted-of-minus-zero side f k t d = ap (reply t) (zeros-alike side f k t d)

@@ -31,9 +31,11 @@ use Rattle.bs_option_price.specs.Laws.NoNan.{minus-half}
 use Rattle.explicit_black.specs.Counted.{Counted, atOnce, orElse}
 use Rattle.explicit_black.specs.Quote.{Outcome, refused, reply, fromCallPrice, fromNormalisedPrice, impliedBlackVolatilityNormalised}
 use Rattle.explicit_black.specs.Quote.{firstRefusal, intrinsicValue, priceBound, boundTests, normalisedTimeValue}
-use Rattle.explicit_black.specs.Quote.{fromTimeValue, fromPrice, fromQuote, impliedBlackVolatilityInput}
+use Rattle.explicit_black.specs.Quote.{fromTimeValue, fromPrice, fromFigures, fromQuote, impliedBlackVolatilityInput}
+use Rattle.explicit_black.specs.Discount.{discountedRefusal, fromDiscountedQuote, impliedBlackVolatilityDiscounted}
 use Rattle.explicit_black.specs.Guards.{guardedWith, guarded, unguarded, survivalThreshold, bMaxOf, fromCallPriceBy, fromNormalisedPriceBy}
-use Rattle.explicit_black.specs.Guards.{impliedBlackVolatilityNormalisedBy, fromTimeValueBy, impliedBlackVolatilityInputBy}
+use Rattle.explicit_black.specs.Guards.{impliedBlackVolatilityNormalisedBy, fromTimeValueBy, fromFiguresBy, impliedBlackVolatilityInputBy}
+use Rattle.explicit_black.specs.Guards.{impliedBlackVolatilityDiscountedBy}
 
 -- ---- q is a price divided by its b_max: where the two tests are reached, neither holds
 abbrev pub NotTaken : Float → Type 0
@@ -146,14 +148,25 @@ module _ (by : Float → Float → Counted Outcome) (A : Agrees by) where
   unfolding fromTimeValueBy fromTimeValue
   time-value-by x v F = on-false (le v minPositive) _ (λ e. normalised-price-by x v F)
 
-  -- and of the quote entry, whatever the side
-  pub input-by : (side : ℕ) (p f k t : Float) → impliedBlackVolatilityInputBy by side p f k t ≡ impliedBlackVolatilityInput side p f k t
-  unfolding impliedBlackVolatilityInputBy impliedBlackVolatilityInput fromQuote fromPrice
-  input-by side p f k t =
+  -- and of a quote, whatever the side
+  figures-by : (side : ℕ) (p f k t : Float) → fromFiguresBy by side p f k t ≡ fromFigures side p f k t
+  unfolding fromPrice
+  figures-by side p f k t =
       let intrinsic = intrinsicValue side f k in
-      let number = firstRefusal side p f k t in
-      ap (λ (c : Counted Outcome). reply t (cond (eqb number 0) (orElse (boundTests p intrinsic (priceBound side f k) t) c) (atOnce (refused number))))
+      ap (orElse (boundTests p intrinsic (priceBound side f k) t))
       (time-value-by (negativeAbsLogMoneyness f k) (normalisedTimeValue p intrinsic (sqrt f ⊗ sqrt k)) (div-fits binary64 _ _))
+
+  pub input-by : (side : ℕ) (p f k t : Float) → impliedBlackVolatilityInputBy by side p f k t ≡ impliedBlackVolatilityInput side p f k t
+  unfolding impliedBlackVolatilityInputBy impliedBlackVolatilityInput fromQuote
+  input-by side p f k t =
+      let number = firstRefusal side p f k t in
+      ap (λ (c : Counted Outcome). reply t (cond (eqb number 0) c (atOnce (refused number)))) (figures-by side p f k t)
+
+  pub discounted-by : (side : ℕ) (p f k t d : Float) → impliedBlackVolatilityDiscountedBy by side p f k t d ≡ impliedBlackVolatilityDiscounted side p f k t d
+  unfolding impliedBlackVolatilityDiscountedBy impliedBlackVolatilityDiscounted fromDiscountedQuote
+  discounted-by side p f k t d =
+      let number = discountedRefusal side p f k t d in
+      ap (λ (c : Counted Outcome). reply t (cond (eqb number 0) c (atOnce (refused number)))) (figures-by side (p ⊘ d) f k t)
 
 -- ---- WITHOUT THE BRANCHES, and with any outcomes in them
 unguarded-agrees : Agrees unguarded
@@ -165,6 +178,10 @@ normalised-unguarded = normalised-by unguarded unguarded-agrees
 pub input-unguarded : (side : ℕ) (p f k t : Float) → impliedBlackVolatilityInputBy unguarded side p f k t ≡ impliedBlackVolatilityInput side p f k t
 input-unguarded = input-by unguarded unguarded-agrees
 
+pub discounted-unguarded : (side : ℕ) (p f k t d : Float)
+    → impliedBlackVolatilityDiscountedBy unguarded side p f k t d ≡ impliedBlackVolatilityDiscounted side p f k t d
+discounted-unguarded = discounted-by unguarded unguarded-agrees
+
 replaced-agrees : (low high : Counted Outcome) → Agrees (guardedWith low high)
 replaced-agrees low high probability mu h g = rw (h, g) refl
 
@@ -175,6 +192,10 @@ normalised-replaced low high = normalised-by (guardedWith low high) (replaced-ag
 pub input-replaced : (low high : Counted Outcome) (side : ℕ) (p f k t : Float)
     → impliedBlackVolatilityInputBy (guardedWith low high) side p f k t ≡ impliedBlackVolatilityInput side p f k t
 input-replaced low high = input-by (guardedWith low high) (replaced-agrees low high)
+
+pub discounted-replaced : (low high : Counted Outcome) (side : ℕ) (p f k t d : Float)
+    → impliedBlackVolatilityDiscountedBy (guardedWith low high) side p f k t d ≡ impliedBlackVolatilityDiscounted side p f k t d
+discounted-replaced low high = discounted-by (guardedWith low high) (replaced-agrees low high)
 
 -- ---- WHERE `by` STANDS: a call that gets as far as the branches is answered by `by`
 module _ (by : Float → Float → Counted Outcome) where
@@ -194,6 +215,14 @@ module _ (by : Float → Float → Counted Outcome) where
       le v minPositive ≡ false → impliedBlackVolatilityInputBy by side p f k t ≡ reply t (fromNormalisedPriceBy by (negativeAbsLogMoneyness f k) v)
   unfolding impliedBlackVolatilityInputBy fromTimeValueBy boundTests orElse
   input-reached side p f k t n z g m = rw (n, z, g, m) refl
+
+  pub discounted-reached : (side : ℕ) (p f k t d : Float) → discountedRefusal side p f k t d ≡ 0 → eq t plusZero ≡ false
+      → le (priceBound side f k) (p ⊘ d) ≡ false →
+      let v = normalisedTimeValue (p ⊘ d) (intrinsicValue side f k) (sqrt f ⊗ sqrt k) in
+      le v minPositive ≡ false
+      → impliedBlackVolatilityDiscountedBy by side p f k t d ≡ reply t (fromNormalisedPriceBy by (negativeAbsLogMoneyness f k) v)
+  unfolding impliedBlackVolatilityDiscountedBy fromTimeValueBy boundTests orElse
+  discounted-reached side p f k t d n z g m = rw (n, z, g, m) refl
 
 -- ---- A PRICE BETWEEN 0 AND B_MAX, at a finite log-moneyness other than 0
 pub record WithinBound (x p : Float) : Type 0 where

@@ -38,7 +38,7 @@ kind-count c (refused-at-once m e l h) = rw e (lit≤ tt)
 kind-count c (total-at-root x e p F h) = h
 kind-count c (refused-no-root e h) = h
 
-kind-refused : {least : ℕ} (c : Counted Outcome) (m : ℕ) → least ≤ 9 → Kind least c → c .result ≡ refused m
+pub kind-refused : {least : ℕ} (c : Counted Outcome) (m : ℕ) → least ≤ 9 → Kind least c → c .result ≡ refused m
     → (least ≤ m) × (m ≤ 9) × (m ≤ 8 → c .count ≡ 0)
 kind-refused c m g (total-at-once v e n F) q = never (cc)
 kind-refused c m g (refused-at-once k e l h) q = let i : k ≡ m = cc in (omega arith, omega arith, λ _. ap (λ d. d .count) e)
@@ -300,26 +300,29 @@ domain-refusals side p f k t h m e =
     is = unfold fromQuote in rw (domain-passes side p f k t h)
 
 -- ---- at the money nothing is searched for
-abbrev NoSearch : Counted Outcome → Type 0
+abbrev pub NoSearch : Counted Outcome → Type 0
 NoSearch c = c .count ≡ 0
 
 pub money-normalised : (x p : Float) → eq (abs x) plusZero ≡ true → fromNormalisedPrice x p .count ≡ 0
 unfolding fromNormalisedPrice
 money-normalised x p e = rw e (in-both NoSearch (le p plusZero) refl (in-both NoSearch (le (exp (neg half ⊗ abs x)) p) refl refl))
 
-pub money-input : (side : ℕ) (p f k t : Float) → eq (abs (negativeAbsLogMoneyness f k)) plusZero ≡ true
-    → compared (impliedBlackVolatilityInput side p f k t) .count ≡ 0
-unfolding fromQuote fromTimeValue
-money-input side p f k t e =
+pub money-figures : (side : ℕ) (p f k t : Float) → eq (abs (negativeAbsLogMoneyness f k)) plusZero ≡ true → fromFigures side p f k t .count ≡ 0
+unfolding fromTimeValue
+money-figures side p f k t e =
     let x = negativeAbsLogMoneyness f k in
     let intrinsic = intrinsicValue side f k in
     let bound = priceBound side f k in
     let roots = sqrt f ⊗ sqrt k in
     let v = normalisedTimeValue p intrinsic roots in
-    ap (λ d. d .count) (compared-input side p f k t)
-    ∙ in-both NoSearch (eqb (firstRefusal side p f k t) 0)
-    (rw (from-price-is p intrinsic bound roots x t)
+    rw (from-price-is p intrinsic bound roots x t)
     (in-both NoSearch (eq t plusZero) refl
     (in-both NoSearch (le bound p) refl
-    (in-both NoSearch (le v minPositive) refl (money-normalised x v e)))))
-    refl
+    (in-both NoSearch (le v minPositive) refl (money-normalised x v e))))
+
+pub money-input : (side : ℕ) (p f k t : Float) → eq (abs (negativeAbsLogMoneyness f k)) plusZero ≡ true
+    → compared (impliedBlackVolatilityInput side p f k t) .count ≡ 0
+unfolding fromQuote
+money-input side p f k t e =
+    ap (λ d. d .count) (compared-input side p f k t)
+    ∙ in-both NoSearch (eqb (firstRefusal side p f k t) 0) (money-figures side p f k t e) refl

@@ -1,6 +1,6 @@
 -- What layer four computes (REQUIREMENTS 10, 14), and what is proved of it. The files here are the definitions that its contracts and theorems promise,
 -- in the order in which they build on each other: a reader has to believe these. Internal says what the code's own types stand for.
--- Laws has facts about the definitions, each proved. Keystrokes and PriceExamples have values that the definitions compute.
+-- Laws has facts about the definitions, each proved. Keystrokes, PriceExamples and DiscountExamples have values that the definitions compute.
 pub mod Counted
 pub mod Loops
 pub mod Curves
@@ -19,3 +19,4 @@ pub mod Internal
 pub mod Laws
 pub mod Keystrokes
 pub mod PriceExamples
+pub mod DiscountExamples

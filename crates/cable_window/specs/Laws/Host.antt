@@ -9,12 +9,15 @@ use borrow.Author.Tests.{eqb-true}
 use lib.Dec.{T, eqb, lit<}
 use lib.ListN.{length, getD}
 use lib.Ieee.{Float, binary64, ofBits}
-use lib.Ieee.Bits.{ofBits-toBits}
+use lib.Ieee.Bits.{ofBits-toBits, ofBits-fits}
+use Rattle.arithmetic.specs.Operations.{one}
 use Rattle.arithmetic.specs.Laws.Choices.{in-both, by-test}
 use Rattle.explicit_black.specs.Quote.{Reply, answer, refusal}
+use Rattle.explicit_black.specs.Discount.{impliedBlackVolatilityDiscounted}
 use Rattle.explicit_black.specs.Laws.Quote.{FiguresAreNumbers}
+use Rattle.explicit_black.specs.Laws.Discount.{factor-one}
 use Rattle.xdr_sheet.specs.Xdr.{unsigned, hyper, double}
-use Rattle.xdr_sheet.specs.Sheet.{replyFrom}
+use Rattle.xdr_sheet.specs.Sheet.{priceAt, forwardAt, strikeAt, timeAt}
 use Rattle.cable_window.specs.Window.{windowBytes, commandAt, statusAt, sideAt, totalAt, volatilityAt, countAt, zeros, isQuoteWord, writable}
 use Rattle.cable_window.specs.Window.{bit, windowReply, withoutInterrupt, offsetRefusal, afterWrite, Write, afterWrites, writes}
 use Rattle.cable_window.specs.Host.{AreBytes, AreWords, lastWord, replyAfter, commands, anySolves, anyClears}
@@ -109,10 +112,12 @@ reply-last l a =
     reply-by (afterWrites zeros l) (length-after zeros l)
     ∙ same-reply (unsigned (afterWrites zeros l)) (lastWord 0 l) (λ at f. quote-word-last zeros l at refl a f ∙ rw (read-zeros windowBytes at))
 
--- its side and doubles stand in the order of a sheet's quote (REQUIREMENTS 11.1)
-pub sheet-order : (s : List ℕ) → windowReply s ≡ replyFrom s sideAt
-unfolding windowReply replyFrom
-sheet-order s = refl
+-- its side and doubles stand as those of a sheet's quote do up to the time (REQUIREMENTS 11.1), and the reply is that quote's with factor 1
+pub sheet-order : (s : List ℕ) → windowReply s
+    ≡ impliedBlackVolatilityDiscounted (unsigned s sideAt) (double s (sideAt + priceAt)) (double s (sideAt + forwardAt)) (double s (sideAt + strikeAt))
+    (double s (sideAt + timeAt)) one
+unfolding windowReply double
+sheet-order s = sym (factor-one _ _ _ _ _ (ofBits-fits binary64 (hyper s (sideAt + priceAt))))
 
 -- ---- the status, bit by bit
 

@@ -8,15 +8,15 @@ use native.Mathlib.Nat.{zero-mul, mul-one, mul-pos}
 use native.Mathlib.Omega.{arith}
 use mathlib.Core.Bool.{Bool, true, false, not, cond, _||_}
 use lib.IntN.{ℤ, pos, negsuc}
-use lib.Dec.{T, eqb, eqb·suc-zero, ltb, ltb→lt}
+use lib.Dec.{T, eqb, eqb·suc-zero, ltb, ltb→lt, lit≤}
 use borrow.Author.Tests.{eq-eqb}
-use lib.Ieee.{Float, nan, inf, fin, binary64, fits, unlike, below, div, lt, le, eq, ofBits}
+use lib.Ieee.{Float, nan, inf, fin, binary64, fits, unlike, below, sub, div, lt, le, eq, isNan, ofBits}
 use lib.Ieee.Fits.{div-fits}
 use lib.Ieee.Bits.{is-true, ofBits-fits}
 use lib.Ieee.Scale.{finite}
 use lib.Ieee.Positive.{num, den, den-pos, positive}
-use Rattle.arithmetic.specs.Operations.{_⊘_, bits, plusZero}
-use Rattle.arithmetic.specs.Basic.{isSignMinus, isFinite}
+use Rattle.arithmetic.specs.Operations.{_⊘_, bits, plusZero, two, minPositive}
+use Rattle.arithmetic.specs.Basic.{isSignMinus, max, isFinite}
 use Rattle.arithmetic.specs.Laws.Times.{Times, num-positive}
 use Rattle.arithmetic.specs.Laws.Compare.{lt-is, not-le, above-zero}
 use Rattle.arithmetic.specs.Laws.Products.{div-is}
@@ -26,14 +26,16 @@ use Rattle.arithmetic.specs.Laws.ScaledProducts.{quotient-times}
 use Rattle.arithmetic.specs.Laws.Zeros.{zeroOf, equal-same}
 use Rattle.bs_option_price.specs.Laws.Moneyness.{BoundedRatio}
 use Rattle.explicit_black.specs.Counted.{Counted, atOnce}
-use Rattle.explicit_black.specs.Quote.{Outcome, refused, reply, fromFigures, fromQuote}
+use Rattle.explicit_black.specs.Quote.{Outcome, refused, answer, refusal, volatilityOver, reply, fromPrice, fromFigures, fromQuote}
 use Rattle.explicit_black.specs.Price.{BothAboveOrZero}
 use Rattle.explicit_black.specs.Demand.{fourUp, fourDown, Exactly, ComparablePair, ComparableFigures, ComparableTimes}
 use Rattle.explicit_black.specs.Discount.{discountedRefusal, fromDiscountedQuote, impliedBlackVolatilityDiscounted, discountedAtBits, Agree}
 use Rattle.explicit_black.specs.Laws.ZeroPrice.{IsZero, round-is-zero, zero-not-below, minusZero}
+use Rattle.explicit_black.specs.Laws.Powers.{comparable-pair, comparable, four-times}
 use Rattle.explicit_black.specs.Laws.Price.{times-up, times-down, flipped}
 use Rattle.explicit_black.specs.Laws.Demand.{TimeTested, times-tested, above-plusZero, Related, related-times, vanish, upward, downward}
 use Rattle.explicit_black.specs.Laws.Demand.{ComparableValues, clear-or-zero, zero-after-tests, same-outcome, other-outcome, comparable-ratio}
+use Rattle.explicit_black.specs.Laws.Demand.{callForward, callStrike, putForward, putStrike, timeOne, comparable-call, comparable-put}
 use Rattle.explicit_black.specs.Laws.Discount.{DiscountedDomain, discounted-passed, divided-outcome, compared-discounted}
 
 -- ---- a price over a factor
@@ -299,3 +301,66 @@ pub discounted-of-minus-zero : (side : ℕ) (f k t d : Float)
     → impliedBlackVolatilityDiscounted side minusZero f k t d ≡ impliedBlackVolatilityDiscounted side plusZero f k t d
 unfolding impliedBlackVolatilityDiscounted ofBits
 discounted-of-minus-zero side f k t d = ap (reply t) (zeros-alike side f k t d)
+
+-- ---- the call 0 0.5 100 120 1 0.5 and the put 1 2 480 400 1 0.5 agree: the hypotheses are met
+abbrev halfBits : ℕ
+halfBits = 0x3FE0_0000_0000_0000
+
+abbrev twoBits : ℕ
+twoBits = 0x4000_0000_0000_0000
+
+pub discounted-call-and-put-agree : discountedAtBits 1 twoBits putForward putStrike timeOne halfBits ≡ discountedAtBits 0 halfBits callForward callStrike timeOne halfBits
+unfolding div lt le eq ofBits
+discounted-call-and-put-agree =
+    discounted-agree (pos 1) halfBits callForward callStrike timeOne halfBits twoBits putForward putStrike timeOne halfBits (inr (tt, tt, tt, tt)) tt
+    (comparable _ _ _ tt tt (comparable-call .pair)) (comparable _ _ _ tt tt (comparable-put .pair))
+    (four-times (bits halfBits ⊘ bits halfBits) (bits twoBits ⊘ bits halfBits) tt tt refl refl) .other-side
+    (four-times (bits callStrike) (bits putForward) tt tt refl refl)
+    (four-times (bits callForward) (bits putStrike) tt tt refl refl)
+    .0
+
+-- ---- why both quotients are above 2 ^ -1022, and not at least: (2 ^ 53 - 1) * 2 ^ -1075 rounds to 2 ^ -1022, and 4 times it is a value. Two calls at time
+-- zero meet every other term of `scaled-agree`; the first has the intrinsic value as its divided price, and the second has not.
+abbrev firstPrice : ℕ
+firstPrice = 0x001F_FFFF_FFFF_FFFF
+
+abbrev secondPrice : ℕ
+secondPrice = 0x003F_FFFF_FFFF_FFFF
+
+-- 2 ^ -1021 and 2 ^ -1022, and 4 times each
+abbrev firstForward : ℕ
+firstForward = 0x0020_0000_0000_0000
+
+abbrev firstStrike : ℕ
+firstStrike = 0x0010_0000_0000_0000
+
+abbrev secondForward : ℕ
+secondForward = 0x0040_0000_0000_0000
+
+abbrev secondStrike : ℕ
+secondStrike = 0x0030_0000_0000_0000
+
+pub record AtTheLimit : Type 0 where
+  pub first-comparable : ComparableFigures (bits firstPrice) (bits firstForward) (bits firstStrike)
+  pub second-comparable : ComparableFigures (bits secondPrice) (bits secondForward) (bits secondStrike)
+  pub price-scaled : Exactly (pos 1) (bits firstPrice) (bits secondPrice)
+  pub forward-scaled : Exactly (pos 1) (bits firstForward) (bits secondForward)
+  pub strike-scaled : Exactly (pos 1) (bits firstStrike) (bits secondStrike)
+  pub first-quotient : bits firstPrice ⊘ two ≡ minPositive
+  pub second-quotient : bits secondPrice ⊘ two ≡ bits 0x002F_FFFF_FFFF_FFFF
+  pub first-reply : impliedBlackVolatilityDiscounted 0 (bits firstPrice) (bits firstForward) (bits firstStrike) plusZero two ≡ answer plusZero plusZero 0
+  pub second-reply : impliedBlackVolatilityDiscounted 0 (bits secondPrice) (bits secondForward) (bits secondStrike) plusZero two ≡ refusal 5 0
+
+pub at-the-limit : AtTheLimit
+unfolding impliedBlackVolatilityDiscounted fromDiscountedQuote discountedRefusal fromPrice volatilityOver max sub div lt le eq isNan ofBits
+at-the-limit = record {
+  first-comparable = comparable _ _ _ tt tt (comparable-pair _ _ tt tt tt tt (lit≤ tt) (lit≤ tt));
+  second-comparable = comparable _ _ _ tt tt (comparable-pair _ _ tt tt tt tt (lit≤ tt) (lit≤ tt));
+  price-scaled = four-times _ _ tt tt refl refl;
+  forward-scaled = four-times _ _ tt tt refl refl;
+  strike-scaled = four-times _ _ tt tt refl refl;
+  first-quotient = refl;
+  second-quotient = refl;
+  first-reply = refl;
+  second-reply = refl;
+}

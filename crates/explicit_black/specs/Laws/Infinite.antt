@@ -44,10 +44,12 @@ use Rattle.explicit_black.specs.Quote.{Outcome, total, refused, impliedN
 use Rattle.explicit_black.specs.Quote.{fromCallPrice, fromNormalisedPrice, fromTimeValue, firstRefusal, intrinsicValue, priceBound}
 use Rattle.explicit_black.specs.Quote.{normalisedTimeValue, fromPrice, fromQuote, answer, replyOf, volatility, volatilityOver}
 use Rattle.explicit_black.specs.Quote.{impliedBlackVolatilityInput}
+use Rattle.explicit_black.specs.Discount.{impliedBlackVolatilityDiscounted}
 use Rattle.explicit_black.specs.Guards.{survivalThreshold, bMaxOf}
 use Rattle.explicit_black.specs.Infinite.{AtBound, AtBMax, AtBoundOrBMax, alikeFrom}
 use Rattle.explicit_black.specs.Laws.Tests.{from-price-is}
 use Rattle.explicit_black.specs.Laws.Quote.{Domain, passed, domain-passes, time-positive}
+use Rattle.explicit_black.specs.Laws.Discount.{divided-answer}
 use Rattle.explicit_black.specs.Laws.ZeroPrice.{or-right}
 use Rattle.explicit_black.specs.Laws.Roots.{finitePositive-positive, quantile-fits, from-survival-fits}
 use Rattle.explicit_black.specs.Laws.Guards.{NotTaken, quotient-not-taken, b-max-small, b-max-nan, not-over}
@@ -303,6 +305,21 @@ module _ (side : ℕ) (p f k t v w : Float) (count : ℕ) (F : T (fits binary64 
     | inl a ↦ ap isInfinite (infinite-over side p f k t v w count e (a .0) (a .1) F ∙ sym (a .1))
     | inr s ↦ finite-not w (finite-over side p f k t v w count e c s F) ∙ sym (finite-not v (s .is-finite))
   ]
+
+-- ---- OF A QUOTE WITH A FACTOR the same holds with the divided price in the price's place
+module _ (side : ℕ) (p f k t d v w : Float) (count : ℕ) (F : T (fits binary64 f)) (K : T (fits binary64 k)) (M : T (fits binary64 t))
+    (e : impliedBlackVolatilityDiscounted side p f k t d ≡ answer v w count) where
+  divided : impliedBlackVolatilityInput side (p ⊘ d) f k t ≡ answer v w count
+  divided = divided-answer side p f k t d F K v w count e
+
+  pub discounted-infinite-total : isInfinite v ≡ true → AtBoundOrBMax side (p ⊘ d) f k t × (v ≡ infinity) × (w ≡ infinity)
+  discounted-infinite-total = infinite-total side (p ⊘ d) f k t v w count M divided
+
+  pub discounted-finite-total : isInfinite v ≡ false → Small 539 v
+  discounted-finite-total = finite-total side (p ⊘ d) f k t v w count M divided
+
+  pub discounted-infinite-alike : (eq t plusZero ≡ true) ⊎ T (le alikeFrom t) → isInfinite w ≡ isInfinite v
+  discounted-infinite-alike = infinite-alike side (p ⊘ d) f k t v w count M divided
 
 -- ---- A PRICE AT ITS BOUND, at a time above 0, is answered with infinity
 level-swap : (s t : Bool) (a b : ℕ) → level s a t b ≡ true → level t b s a ≡ true

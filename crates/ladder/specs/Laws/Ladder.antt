@@ -7,17 +7,20 @@ use Prim.Native.Nat.{ℕ, zero, suc, _≤_, _<_}
 use native.Mathlib.Nat.{le-refl}
 use native.Mathlib.Omega.{arith}
 use lib.IntN.{ℤ}
-use lib.Ieee.{Float}
+use lib.Dec.{T}
+use lib.Ieee.{Float, binary64, fits}
 use lib.ListN.{length, getD, length-map, List·getD-map}
 use lib.Seq.{take-all}
-use Rattle.arithmetic.specs.Operations.{bits, plusZero}
+use Rattle.arithmetic.specs.Operations.{bits, plusZero, one}
 use Rattle.arithmetic.specs.Sqrt.{sqrt}
 use Rattle.arithmetic.specs.Laws.Choices.{never}
 use Rattle.explicit_black.specs.Counted.{Option, some, none, Counted}
 use Rattle.explicit_black.specs.Quote.{Outcome, total, refused, Reply, answer, refusal, firstRefusal, intrinsicValue, priceBound, boundTests}
 use Rattle.explicit_black.specs.Quote.{replyOf, impliedBlackVolatilityInput}
+use Rattle.explicit_black.specs.Discount.{impliedBlackVolatilityDiscounted}
 use Rattle.explicit_black.specs.Demand.{compared, Exactly, ComparableFigures, ComparableTimes}
 use Rattle.explicit_black.specs.Laws.Quote.{compared-reply, time-value-refused, first-refusal-le, input-facts}
+use Rattle.explicit_black.specs.Laws.Discount.{factor-one}
 use Rattle.explicit_black.specs.Laws.Tests.{bound-tests-refused}
 use Rattle.explicit_black.specs.Laws.Demand.{inputAtBits, same-side, other-side}
 use Rattle.ladder.specs.Ladder.{totalOf, volatilityOf, countOf, numberOf, takesRoot, replies, trues, rootPlaces, strikeRoots}
@@ -135,6 +138,11 @@ module _ (side : ℕ) (f t : Float) (ks ps ts vs : List Float) (cs rs : List ℕ
       value : {A : Type 0} (g : Reply → A) (d : Reply) → getD (map g (replies side f t ks ps)) i (g d)
           ≡ g (impliedBlackVolatilityInput side (getD ps i plusZero) f (getD ks i plusZero) t)
       value g d = List·getD-map g (replies side f t ks ps) i d ∙ ap g (reply-at side f t ks ps prices-equal i h plusZero plusZero d)
+
+  -- and so its quote with factor 1
+  pub each-place-factor-one : (i : ℕ) → i < length ks → T (fits binary64 (getD ps i plusZero))
+      → Shows solved-ladder i (impliedBlackVolatilityDiscounted side (getD ps i plusZero) f (getD ks i plusZero) t one)
+  each-place-factor-one i h F = rw (factor-one side (getD ps i plusZero) f (getD ks i plusZero) t F) (each-place i h)
 
   pub roots-few : strikeRoots side f t ks ps ≤ length ks
   roots-few =

@@ -1,10 +1,11 @@
 -- `discount::discounted_refusal` meets its contract: each return by the tests that led there. Assumes nothing.
-use mathlib.Core.Path.{_≡_, _∙_}
-use mathlib.Core.Bool.{cond, _||_}
+use mathlib.Core.Path.{_≡_, sym, ap, _∙_}
+use mathlib.Core.Bool.{true, cond, _||_}
 use Prim.Native.Nat.{ℕ}
 use lib.Dec.{eqb}
 use lib.Ieee.{lt}
 use borrow.Author.Tests.{eq-eqb, ne-eqb}
+use native.Mathlib.Omega.{arith}
 use Rattle.arithmetic.specs.Operations.{plusZero}
 use Rattle.arithmetic.specs.Laws.Numbers.{denied, affirmed}
 use Rattle.explicit_black.specs.Discount.{discountedRefusal}
@@ -28,7 +29,13 @@ late : (c : tie.After-first-refusal) →
     number s ≡ cond (eqb first 0) (cond (lt plusZero (s .args .factor)) 0 15) first
 late c =
     let at-finite = c .before in
-    factor-tested-last _ _ _ _ _ _ (affirmed _ _ (at-finite .before .is-finite .ensures) (at-finite .if1 .left)) ∙ rw (← c .first-refusal .ensures)
+    let s = at-finite .before .before in
+    factor-tested-last _ _ _ _ _ _ (affirmed _ _ (at-finite .before .is-finite .ensures) (at-finite .if1 .left))
+    ∙ ap (λ (n : ℕ). cond (eqb n 0) (cond (lt plusZero (s .args .factor)) 0 15) n) (sym (c .first-refusal .ensures))
+
+-- and where the first return past it is passed, that is 0
+passed : (c : tie.Else3) → eqb (c .before .first-refusal .result) 0 ≡ true
+passed c = eq-eqb (c .before .first-refusal .result) 0 (omega (arith, c .if3 .left))
 
 returns : tie.Need-returns
 returns c = rw (early (c .before), no-side _ (c .if2 .taken))
@@ -37,13 +44,13 @@ returns-2 : tie.Need-returns-2
 returns-2 c = rw (early (c .before), a-side _ (c .if2 .left))
 
 returns-3 : tie.Need-returns-3
-returns-3 c = rw (late (c .before), ne-eqb _ _ (c .if3 .taken))
+returns-3 c = rw (late (c .before), ne-eqb (c .before .first-refusal .result) 0 (λ e. c .if3 .taken (omega arith)))
 
 returns-4 : tie.Need-returns-4
-returns-4 c = rw (late (c .before .before), eq-eqb _ _ (c .before .if3 .left), c .if4 .taken)
+returns-4 c = rw (late (c .before .before), passed (c .before), c .if4 .taken)
 
 returns-5 : tie.Need-returns-5
-returns-5 c = rw (late (c .before .before), eq-eqb _ _ (c .before .if3 .left), c .if4 .left)
+returns-5 c = rw (late (c .before .before), passed (c .before), c .if4 .left)
 
 pub discounted-refusal-spec : {M : Type 1} → statement M
 discounted-refusal-spec = tie.close (tie.spec (λ c κs. tt) returns returns-2 (λ c κs. tt) returns-3 returns-4 returns-5)

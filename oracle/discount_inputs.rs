@@ -245,7 +245,7 @@ fn exponent(x: f64) -> i64 {
 // ---- known quotes
 
 /// Quotients that are exact or round to what is known: the sample's and README's, at the bound and next to it, the intrinsic value at time zero; a
-/// price that its bound would refuse before the division, and one that it refuses after it.
+/// price that its bound would refuse before the division, and one that it refuses after it; one whose asymptotic series has 15 terms.
 fn examples() -> Vec<Quote> {
     let mut list = vec![
         discounted(0, 50.0, 100.0, 120.0, 1.0, 0.5),
@@ -258,6 +258,7 @@ fn examples() -> Vec<Quote> {
         discounted(0, 40.0, 120.0, 100.0, -0.0, 2.0),
         discounted(1, -0.0, 100.0, 90.0, 1.0, 0.9),
         discounted(1, 1.0, 480.0, 400.0, 1.0, 0.25),
+        discounted(0, 2.5e-37, 100.0, 120.0, 1.0, 0.5),
     ];
     list.extend([0.5, 2.0, 0.25, 0.9, 0.95, 1.05, 1.1, 3.0].map(|f| discounted(0, f, 100.0, 120.0, 1.0, f)));
     let ends = [power(-1074), step(power(-1022), -1), power(-1022), f64::MAX];

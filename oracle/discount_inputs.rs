@@ -55,7 +55,7 @@ fn desk_factor(rng: &mut Rng, time: f64) -> f64 {
 }
 
 /// A price with this quotient, where one is next to their product.
-fn price_for(quotient: f64, factor: f64) -> Option<f64> {
+pub fn price_for(quotient: f64, factor: f64) -> Option<f64> {
     let product = quotient * factor;
     [0, 1, -1, 2, -2].map(|n| step(product, n)).into_iter().find(|p| (p / factor).to_bits() == quotient.to_bits())
 }
@@ -63,7 +63,7 @@ fn price_for(quotient: f64, factor: f64) -> Option<f64> {
 // ---- kinds
 
 /// A desk's quote whose price is published discounted, in full or in ticks.
-pub fn desk_discounted(rng: &mut Rng) -> Quote {
+fn desk_discounted(rng: &mut Rng) -> Quote {
     let q = desk(rng);
     let factor = desk_factor(rng, q.time);
     let price = q.price * factor;

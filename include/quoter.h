@@ -1,5 +1,6 @@
 /* The Black volatility of a quote, the price of a volatility, ladders and sheets of quotes, the cable window, and the functions that these are
-   computed with: the static library of the crate `exports`, for x86-64 Linux. docs/REQUIREMENTS.md says what each call computes; section numbers below are its.
+   computed with: the static library of the crate `exports`, for x86-64 Linux. docs/REQUIREMENTS.md says what each call computes; section numbers
+   below are its.
 
    Every function takes any bits and ends. It keeps no state, so that threads may call it at once, uses no heap, and calls nothing of its
    caller's.

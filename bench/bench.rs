@@ -4,6 +4,7 @@
 //!
 //! usage: bench TARGET [PICTURE.svg]     TARGET: the folder with staticlib/libexports.a and bin/sheet
 //!        bench --run ours|rust|platform      desk quotes of one of them alone, for callgrind
+//!        bench --run discounted              discounted desk quotes of ours
 //!        bench --run window                  desk quotes through the cable window
 //!        bench --run ladder|quotes           desk ladders, by calls for ladders or by calls for quotes
 

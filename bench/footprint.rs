@@ -2,7 +2,7 @@
 
 use crate::ladder::{self, Ladder, Lent, PLACES};
 use crate::{ours, timing};
-use oracle::inputs::{KINDS, Quote, Quotes, Rng};
+use oracle::inputs::{KINDS, Quote, Quotes, Rng, quote};
 use oracle::price_inputs::{Keyed, PRICE_KINDS, Prices};
 use std::arch::asm;
 use std::io::Write;
@@ -15,10 +15,11 @@ const NEAR_BOUND: usize = 200_000;
 const PAINT: u64 = 0xA5A5_A5A5_A5A5_A5A5;
 const WORDS: usize = 4096;
 
-/// Runs desk quotes or desk ladders of one of the six, for callgrind to count between entry and return.
+/// Runs desk quotes or desk ladders of one of the seven, for callgrind to count between entry and return.
 pub fn run(which: &str) {
     match which {
         "ours" => counted_ours(&timing::desk(QUOTES)),
+        "discounted" => counted_discounted(&timing::discounted(QUOTES)),
         "rust" => counted_rust(&timing::desk(QUOTES)),
         "platform" => counted_platform(&timing::desk(QUOTES)),
         "window" => counted_window(&timing::desk(QUOTES)),
@@ -30,6 +31,12 @@ pub fn run(which: &str) {
 #[inline(never)]
 #[unsafe(no_mangle)]
 extern "C" fn counted_ours(list: &Vec<Quote>) {
+    list.iter().for_each(|&q| timing::ours(q));
+}
+
+#[inline(never)]
+#[unsafe(no_mangle)]
+extern "C" fn counted_discounted(list: &Vec<Quote>) {
     list.iter().for_each(|&q| timing::ours(q));
 }
 
@@ -82,7 +89,7 @@ fn instructions(which: &str, over: usize) -> Option<f64> {
 /// What a call is given in registers, and what on the stack.
 struct Given<'a> {
     words: [u64; 6],
-    figures: [f64; 4],
+    figures: [f64; 5],
     pushed: &'a [u64],
 }
 
@@ -95,7 +102,7 @@ fn painted(stack: &mut [u64], function: usize, given: Given) -> usize {
     let top = (end - 8 * given.pushed.len()) & !15;
     stack[(top - start) / 8..][..given.pushed.len()].copy_from_slice(given.pushed);
     let [side, p, q, r, s, t] = given.words;
-    let [a, b, c, d] = given.figures;
+    let [a, b, c, d, e] = given.figures;
     unsafe {
         asm!(
             "mov r12, rsp",
@@ -114,6 +121,7 @@ fn painted(stack: &mut [u64], function: usize, given: Given) -> usize {
             in("xmm1") b,
             in("xmm2") c,
             in("xmm3") d,
+            in("xmm4") e,
             out("r12") _,
             clobber_abi("C"),
         );
@@ -129,14 +137,14 @@ fn at<T>(place: *const T) -> u64 {
 fn quote_stack(stack: &mut [u64], q: Quote) -> usize {
     let (mut total, mut volatility, mut count) = (0.0f64, 0.0f64, 0u64);
     let words = [q.side as u64, at(&raw mut total), at(&raw mut volatility), at(&raw mut count), 0, 0];
-    let given = Given { words, figures: [q.price, q.forward, q.strike, q.time], pushed: &[] };
+    let given = Given { words, figures: [q.price, q.forward, q.strike, q.time, q.factor], pushed: &[] };
     painted(stack, ours::quoter_quote as *const () as usize, given)
 }
 
 fn price_stack(stack: &mut [u64], k: Keyed) -> usize {
     let mut price = 0.0f64;
     let words = [k.side as u64, at(&raw mut price), 0, 0, 0, 0];
-    let given = Given { words, figures: [k.volatility, k.forward, k.strike, k.time], pushed: &[] };
+    let given = Given { words, figures: [k.volatility, k.forward, k.strike, k.time, 0.0], pushed: &[] };
     painted(stack, ours::quoter_price as *const () as usize, given)
 }
 
@@ -145,7 +153,7 @@ fn window_stack(stack: &mut [u64], q: Quote) -> usize {
     let mut window = [0u8; 64];
     window[8..44].copy_from_slice(&ours::shown(q));
     let words = [at(window.as_mut_ptr()), 0, 1, 0, 0, 0];
-    let taken = painted(stack, ours::quoter_window_write as *const () as usize, Given { words, figures: [0.0; 4], pushed: &[] });
+    let taken = painted(stack, ours::quoter_window_write as *const () as usize, Given { words, figures: [0.0; 5], pushed: &[] });
     assert_eq!(window[7] % 2, 1, "the quote is solved");
     taken
 }
@@ -156,7 +164,7 @@ fn ladder_stack(stack: &mut [u64], l: &Ladder, lent: &mut Lent) -> usize {
     let words = [l.side as u64, at(l.strikes.as_ptr()), n, at(l.prices.as_ptr()), n, at(lent.totals.as_mut_ptr())];
     let [volatilities, counts] = [at(lent.volatilities.as_mut_ptr()), at(lent.counts.as_mut_ptr())];
     let pushed = [n, volatilities, n, counts, n, at(lent.refusals.as_mut_ptr()), n, at(&raw mut roots)];
-    let given = Given { words, figures: [l.forward, l.time, 0.0, 0.0], pushed: &pushed };
+    let given = Given { words, figures: [l.forward, l.time, 0.0, 0.0, 0.0], pushed: &pushed };
     let taken = painted(stack, ours::quoter_ladder as *const () as usize, given);
     assert!(roots <= n, "the ladder is solved");
     taken
@@ -165,13 +173,13 @@ fn ladder_stack(stack: &mut [u64], l: &Ladder, lent: &mut Lent) -> usize {
 /// Calls and puts at all distances from the bound of their price, where an exponential may leave its fast path.
 fn near_bound(length: usize) -> Vec<Quote> {
     let mut rng = Rng::new(1);
-    let quote = |i: usize| {
+    let near = |i: usize| {
         let (bound, other) = (100.0, 100.0 * 0.5f64.powf(2.0 * rng.unit() - 1.0));
         let price = bound * (1.0 - 10f64.powf(-1.0 - 7.0 * rng.unit()));
         let (forward, strike) = if i % 2 == 0 { (bound, other) } else { (other, bound) };
-        Quote { side: (i % 2) as u32, price, forward, strike, time: 1.0 }
+        quote((i % 2) as u32, price, forward, strike, 1.0)
     };
-    (0..length).map(quote).collect()
+    (0..length).map(near).collect()
 }
 
 /// Quotes of every kind, and near the bound of their price.
@@ -224,7 +232,8 @@ fn sheet() -> Vec<u8> {
     list.sort_by_cached_key(|&q| std::cmp::Reverse(quote_stack(&mut stack, q)));
     for q in list.into_iter().take(1000) {
         bytes.extend(q.side.to_be_bytes());
-        [q.price, q.forward, q.strike, q.time].iter().for_each(|x| bytes.extend(x.to_bits().to_be_bytes()));
+        let figures = [q.price, q.forward, q.strike, q.time, q.factor];
+        figures.iter().for_each(|x| bytes.extend(x.to_bits().to_be_bytes()));
     }
     bytes
 }
@@ -278,6 +287,7 @@ pub fn table(target: &Path) {
         let found = instructions(which, QUOTES);
         print(&format!("instructions a desk quote, {which} (callgrind)"), found, "valgrind");
     }
+    print("instructions a desk quote, discounted (callgrind)", instructions("discounted", QUOTES), "valgrind");
     print("instructions a desk quote through the window (callgrind)", instructions("window", QUOTES), "valgrind");
     let places = PLACES * ladder::LADDERS;
     print("instructions a place, ladder (callgrind)", instructions("ladder", places), "valgrind");
@@ -294,5 +304,5 @@ pub fn table(target: &Path) {
     print_stack("ladder", ladders.len(), quote + 256, ladders_stack(&ladders));
     print_stack("window", quotes.len(), quote + 256, windows_stack(&quotes));
     let found = sheet_stack(&target.join("bin/sheet"), &target.join("bench/massif.out"));
-    print("stack of program sheet, 1,000 quotes (massif), of 49152", found, "valgrind or target/bin/sheet");
+    print("stack of program sheet, 1,000 quotes (massif), of 57344", found, "valgrind or target/bin/sheet");
 }

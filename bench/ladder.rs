@@ -1,7 +1,7 @@
 //! Ladders, and three ways to solve one: by a call for the ladder, by a call for each of its quotes, by the Rust in a loop.
 
 use crate::{ours, timing};
-use oracle::inputs::{Quote, Rng};
+use oracle::inputs::{Quote, Rng, quote};
 use oracle::price::{self, Outcome::Price};
 use oracle::quote::Outcome;
 use oracle::standin::exp;
@@ -36,13 +36,7 @@ impl Ladder {
     }
 
     fn quote(&self, i: usize) -> Quote {
-        Quote {
-            side: self.side,
-            price: self.prices[i],
-            forward: self.forward,
-            strike: self.strikes[i],
-            time: self.time,
-        }
+        quote(self.side, self.prices[i], self.forward, self.strikes[i], self.time)
     }
 
     fn quotes(&self) -> impl Iterator<Item = Quote> {
@@ -70,7 +64,7 @@ impl Lent {
 /// the quote's; each makes an evaluation.
 fn desk_ladder(head: Quote, rng: &mut Rng) -> Ladder {
     let Outcome::Answer { total, volatility, .. } = timing::expected(head) else { unreachable!() };
-    let quote = || {
+    let searched = || {
         let strike = head.forward * exp(total * rng.uniform(-2.0, 2.0));
         let Price(price) =
             price::price(head.side, volatility * rng.uniform(0.8, 1.25), head.forward, strike, head.time)
@@ -79,8 +73,8 @@ fn desk_ladder(head: Quote, rng: &mut Rng) -> Ladder {
         };
         Some(Quote { strike, price, ..head })
     };
-    let searched = std::iter::from_fn(quote).filter(|&q| timing::evaluations(q) > 0);
-    Ladder::of(&searched.take(PLACES).collect::<Vec<_>>())
+    let quotes = std::iter::from_fn(searched).filter(|&q| timing::evaluations(q) > 0);
+    Ladder::of(&quotes.take(PLACES).collect::<Vec<_>>())
 }
 
 pub fn desk_ladders() -> Vec<Ladder> {

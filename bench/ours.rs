@@ -30,6 +30,7 @@ unsafe extern "C" {
         forward: f64,
         strike: f64,
         time: f64,
+        factor: f64,
         total: *mut f64,
         volatility: *mut f64,
         count: *mut u64,
@@ -56,7 +57,7 @@ unsafe extern "C" {
     pub fn quoter_window_write(window: *mut u8, offset: u32, word: u32) -> u32;
 }
 
-/// The side and figures of a quote as they stand in a window, from its byte 8 on.
+/// The side and figures of a quote as they stand in a window, from its byte 8 on. A window has no factor.
 pub fn shown(q: Quote) -> [u8; 36] {
     let mut bytes = [0; 36];
     bytes[..4].copy_from_slice(&q.side.to_be_bytes());
@@ -105,7 +106,7 @@ pub fn value(function: u32, a: f64, b: f64, c: f64) -> f64 {
 /// The number that is returned.
 #[inline]
 pub fn quote_into(q: Quote, total: &mut f64, volatility: &mut f64, count: &mut u64) -> u32 {
-    unsafe { quoter_quote(q.side, q.price, q.forward, q.strike, q.time, total, volatility, count) }
+    unsafe { quoter_quote(q.side, q.price, q.forward, q.strike, q.time, q.factor, total, volatility, count) }
 }
 
 #[inline]

@@ -1,6 +1,7 @@
 //! Times of our functions beside the Rust's: the same inputs, in turns, the least time of all rounds.
 
 use crate::ours;
+use oracle::discount_inputs::price_for;
 use oracle::inputs::{Quote, Quotes, Rng};
 use oracle::price_inputs::{Keyed, Prices};
 use oracle::quote::Outcome;
@@ -109,14 +110,15 @@ pub fn ours(q: Quote) {
     black_box(ours::quote(q));
 }
 
-/// The source's quote entry.
+/// The source's quote entry, fed the divided price.
 #[inline]
 pub fn source(q: Quote) -> Option<f64> {
     use oracle::DefaultSpecialFn;
     use oracle::explicit_black::implied_black_volatility_input as input;
+    let price = q.price / q.factor;
     match q.side {
-        0 => input::<DefaultSpecialFn, true>(q.price, q.forward, q.strike, q.time),
-        _ => input::<DefaultSpecialFn, false>(q.price, q.forward, q.strike, q.time),
+        0 => input::<DefaultSpecialFn, true>(price, q.forward, q.strike, q.time),
+        _ => input::<DefaultSpecialFn, false>(price, q.forward, q.strike, q.time),
     }
 }
 
@@ -127,14 +129,15 @@ pub fn rust(q: Quote) {
 pub fn plain(q: Quote) {
     use platform::DefaultSpecialFn;
     use platform::explicit_black::implied_black_volatility_input as input;
+    let price = q.price / q.factor;
     black_box(match q.side {
-        0 => input::<DefaultSpecialFn, true>(q.price, q.forward, q.strike, q.time),
-        _ => input::<DefaultSpecialFn, false>(q.price, q.forward, q.strike, q.time),
+        0 => input::<DefaultSpecialFn, true>(price, q.forward, q.strike, q.time),
+        _ => input::<DefaultSpecialFn, false>(price, q.forward, q.strike, q.time),
     });
 }
 
 pub fn expected(q: Quote) -> Outcome {
-    oracle::quote::quote(q.side, q.price, q.forward, q.strike, q.time)
+    oracle::quote::quote(q.side, q.price, q.forward, q.strike, q.time, q.factor)
 }
 
 pub fn evaluations(q: Quote) -> u64 {
@@ -151,6 +154,18 @@ fn list(kind: usize, length: usize, keep: fn(Quote, u64) -> bool) -> Vec<Quote> 
 /// Desk quotes that make an evaluation.
 pub fn desk(length: usize) -> Vec<Quote> {
     list(0, length, |q, count| q.side < 2 && count > 0)
+}
+
+/// Desk quotes whose prices are discounted, by factors from 0.9 to 1.1: the quotients are the prices of `desk`, so that the same is searched for.
+pub fn discounted(length: usize) -> Vec<Quote> {
+    let mut rng = Rng::new(1);
+    let published = |q: Quote| loop {
+        let factor = rng.uniform(0.9, 1.1);
+        if let Some(price) = price_for(q.price, factor) {
+            return Quote { price, factor, ..q };
+        }
+    };
+    desk(length).into_iter().map(published).collect()
 }
 
 /// A time value under 1e-5 of its bound, which is searched for by the survival probability.
@@ -197,6 +212,7 @@ pub fn table() {
     println!("{:36} {:>9} {:>9} {:>9} {:>8} {:>8}", "ns", "ours", "rust", "platform", "to rust", "to plat.");
     functions();
     quotes("desk quotes", &desk(INPUTS));
+    quotes("desk quotes, discounted", &discounted(INPUTS));
     // The Rust's domain: it tests no figure as refusals 1 to 4 do.
     let inside = |q: Quote, _| q.side < 2 && q.forward > 0.0 && q.strike > 0.0 && q.time >= 0.0;
     quotes("edge quotes", &list(1, INPUTS, inside));

@@ -1,5 +1,6 @@
 /* The Black volatility of a quote, the price of a volatility, ladders and sheets of quotes, the cable window, and the functions that these are
-   computed with: the static library of the crate `exports`, for x86-64 Linux. docs/REQUIREMENTS.md says what each call computes; section numbers below are its.
+   computed with: the static library of the crate `exports`, for x86-64 Linux. docs/REQUIREMENTS.md says what each call computes; section numbers
+   below are its.
 
    Every function takes any bits and ends. It keeps no state, so that threads may call it at once, uses no heap, and calls nothing of its
    caller's.
@@ -9,7 +10,7 @@
      - keep subnormal numbers: no flush to zero, no denormals-are-zero;
      - mask every floating-point exception
    (x86-64: MXCSR 0x1F80, its status bits aside, as a C program starts). In any other mode nothing is promised, and bits do differ. A call may
-   set status bits. A test at power-on: side 0, price 0x4p-1074, forward 0x5p-1074, strike 0x2p-1074, time 1 has the total
+   set status bits. A test at power-on: side 0, price 0x4p-1074, forward 0x5p-1074, strike 0x2p-1074, time 1, factor 1 has the total
    0x40000BF0F86ED205 and 6 evaluations; another rounding, or subnormals lost, shows there.
    Where a result is NaN, only that is promised. On x86-64 it is 0x7FF8000000000000, 0xFFF8000000000000, or an argument's pattern, whose sign
    may be turned and whose quiet bit may be set: it may be signalling. No total, no volatility and no price is NaN.
@@ -55,27 +56,31 @@ double quoter_negative_abs_log_moneyness(double f, double k);
 double quoter_inverse_gaussian_cdf(double x, double mu);
 double quoter_inverse_gaussian_survival(double x, double mu);
 
-/* A quote's volatility, and the volatility of a log-moneyness and a normalised price (sections 5, 6 and 10).
+/* A quote's volatility, and the volatility of a log-moneyness and a normalised price (sections 5, 6, 10 and 14.7).
+   After tests 1 to 4 and 15 the price is divided by `factor`, its discount factor, and rounded once; from there on the quotient is the price. A
+   quotient that overflows gives 5 at time zero; at a time above 0 it gives 6 if it is positive and 7 if it is negative. The factor 1 leaves the price
+   as it is.
    Returns 0 for an answer: total volatility, and volatility, which is the total divided by the root of time, are written, both of which may be
    infinite and are 0 at time zero; and so is the number of evaluations that the search made, at most 2,263.
    Otherwise returns the number of a refusal: the number of evaluations is written, and the two figures stay as they were. The first of these
    that applies:
      1  side is neither 0 (call) nor 1 (put)
-     2  a figure is NaN or infinite
+     2  a figure is NaN or infinite, the factor too
      3  forward or strike is not above 0
      4  time is below 0
+    15  factor is not above 0
      5  time is zero, and the price is not the intrinsic value, or 0 where that is below 0
      6  price is above the forward (call) or the strike (put)
      7  the normalised time value is below 0; to quoter_normalised, the price
      8  the normalised price is above its bound, exp(-|log-moneyness| / 2)
      9  no volatility was found
-    10  of a sheet: under 4 bytes, more than 1,000 quotes, or not 4 + 36 times their number of bytes
+    10  of a sheet: under 4 bytes, more than 1,000 quotes, or not 4 + 44 times their number of bytes
     11  of quoter_price alone: volatility is below 0
     12  of a ladder: not all six lengths are equal
     13  of a ladder: more than 500 strikes
     14  of a window: the offset is no multiple of 4, or not writable
    Refusals other than 9 have 0 evaluations. quoter_normalised returns 0, 2, 7, 8 or 9, and answers as at time 1. */
-uint32_t quoter_quote(uint32_t side, double price, double forward, double strike, double time,
+uint32_t quoter_quote(uint32_t side, double price, double forward, double strike, double time, double factor,
                       double *total, double *volatility, uint64_t *count);
 uint32_t quoter_normalised(double log_moneyness, double price, double *total, double *volatility, uint64_t *count);
 
@@ -89,10 +94,10 @@ uint32_t quoter_price(uint32_t side, double volatility, double forward, double s
 
 /* A ladder (section 14.3): quotes that share side, forward and time, each with a strike and a price. A length, in places, comes after each of the six
    pointers.
-   Returns 0 where the ladder is solved. Each place then holds what quoter_quote gives for its quote by itself: total volatility, volatility and number
-   of evaluations, and in `refusals` 0; or where that quote is refused 0 in `totals` and in `volatilities`, its number of evaluations, and the
-   number of its refusal. The number of strikes whose root was taken is written to `roots`: one for each place that passes tests 1 to 4 at a time above 0
-   with a price below its bound, the forward of a call or the strike of a put.
+   Returns 0 where the ladder is solved. Each place then holds what quoter_quote gives for its quote by itself with the factor 1: total volatility,
+   volatility and number of evaluations, and in `refusals` 0; or where that quote is refused 0 in `totals` and in `volatilities`, its number of
+   evaluations, and the number of its refusal. The number of strikes whose root was taken is written to `roots`: one for each place that passes tests
+   1 to 4 at a time above 0 with a price below its bound, the forward of a call or the strike of a put.
    Otherwise returns 12 or 13, the first that applies: nothing is written. */
 uint32_t quoter_ladder(uint32_t side, double forward, double time,
                        const double *strikes, uint64_t strikes_length, const double *prices, uint64_t prices_length,
@@ -100,7 +105,7 @@ uint32_t quoter_ladder(uint32_t side, double forward, double time,
                        uint64_t *counts, uint64_t counts_length, uint32_t *refusals, uint64_t refusals_length, uint64_t *roots);
 
 /* The number of quotes in a sheet (section 11), whose bytes are in XDR (RFC 4506), the highest byte first: the number of its quotes in 4 bytes,
-   then 36 bytes a quote: side in 4, price, forward, strike and time in 8 each.
+   then 44 bytes a quote: side in 4, price, forward, strike, time and factor in 8 each.
    Returns 0 where the sheet is accepted: the number of quotes is written. Returns 10 where it is refused: nothing is written. */
 uint32_t quoter_sheet_size(const uint8_t *sheet, uint64_t length, uint32_t *quotes);
 
@@ -130,8 +135,8 @@ uint32_t quoter_sheet_line(const uint8_t *sheet, uint64_t length, uint32_t *fini
      44  total volatility, 52 volatility: doubles, 0 where the last solve was refused
      60  the number of evaluations of the last solve
    Start from 64 zeros; they may also be any other bytes. Write side and figures, write 1 at 0, and read. A solve is quoter_quote of the window's side
-   and doubles, of any bits, and is finished when the call returns; it stores an answer by its bits. Its results, but for the interrupt, stay until
-   the next solve: bit 0 is still 1 after another quote was written. A NaN pattern stays as it was written.
+   and doubles, of any bits, with the factor 1, and is finished when the call returns; it stores an answer by its bits. Its results, but for the
+   interrupt, stay until the next solve: bit 0 is still 1 after another quote was written. A NaN pattern stays as it was written.
    Returns 0 for the offsets 8, 12, .. 40: the word was written there, and every other word is as it was. Returns 0 for the offset 0: the command was
    carried out, and side and figures are as they were.
    Returns 14 for any other offset: nothing of the window was read or written.

@@ -1,6 +1,8 @@
 //! Writes inputs to standard output: records for `vectors` or `prices`, a sheet, ladders, or lists of writes for `windows`.
 
 #[allow(dead_code)]
+mod discount_inputs;
+#[allow(dead_code)]
 mod inputs;
 #[allow(dead_code)]
 mod ladder_inputs;
@@ -39,8 +41,8 @@ Exit status: 0 written; 1 it could not be written or built; 2 bad usage; 4 rustc
     exit(2)
 }
 
-/// A side and four figures in XDR.
-fn put_figures(side: u32, figures: [f64; 4], out: &mut impl Write) -> io::Result<()> {
+/// A side and figures in XDR.
+fn put_figures<const N: usize>(side: u32, figures: [f64; N], out: &mut impl Write) -> io::Result<()> {
     out.write_all(&side.to_be_bytes())?;
     figures.iter().try_for_each(|figure| out.write_all(&figure.to_bits().to_be_bytes()))
 }
@@ -48,7 +50,7 @@ fn put_figures(side: u32, figures: [f64; 4], out: &mut impl Write) -> io::Result
 /// A sheet in XDR.
 fn put_sheet(quotes: &[Quote], out: &mut impl Write) -> io::Result<()> {
     out.write_all(&(quotes.len() as u32).to_be_bytes())?;
-    quotes.iter().try_for_each(|q| put_figures(q.side, [q.price, q.forward, q.strike, q.time], out))
+    quotes.iter().try_for_each(|q| put_figures(q.side, [q.price, q.forward, q.strike, q.time, q.factor], out))
 }
 
 /// Records of `prices`.

@@ -1,6 +1,7 @@
 //! Inputs for comparisons: for each function its edges, its cuts with their neighbours, each branch's inside, any bits.
 //! Needs nothing of the source; the same seed gives the same inputs on every machine.
 
+use crate::discount_inputs::{discounts, drawn, factor_pair};
 use crate::standin::{exp, ln};
 
 /// splitmix64.
@@ -687,9 +688,37 @@ pub struct Quote {
     pub forward: f64,
     pub strike: f64,
     pub time: f64,
+    pub factor: f64,
 }
 
-pub const KINDS: [&str; 7] = ["desk", "edges", "neighbours", "subnormals", "bits", "scaled", "exchanged"];
+/// The factor of a quote that is not discounted.
+pub const UNDISCOUNTED: f64 = 1.0;
+
+/// The first seven are not discounted.
+pub const KINDS: [&str; 14] = [
+    "desk",
+    "edges",
+    "neighbours",
+    "subnormals",
+    "bits",
+    "scaled",
+    "exchanged",
+    "discounted",
+    "factors",
+    "quotients",
+    "faults",
+    "factor-bits",
+    "factor-scaled",
+    "factor-exchanged",
+];
+
+/// How many kinds are not discounted.
+pub const PLAIN_KINDS: usize = 7;
+
+/// A quote that is not discounted.
+pub fn quote(side: u32, price: f64, forward: f64, strike: f64, time: f64) -> Quote {
+    Quote { side, price, forward, strike, time, factor: UNDISCOUNTED }
+}
 
 /// The normal distribution, to seven digits: enough for a plausible price.
 fn normal(z: f64) -> f64 {
@@ -738,7 +767,7 @@ pub fn desk(rng: &mut Rng) -> Quote {
     let price = black(side, forward, strike, total);
     let tick = rng.one_of(&[0.0, 0.0, 0.0001, 0.01, 0.05]);
     let price = if tick > 0.0 { (price / tick).round() * tick } else { price };
-    Quote { side, price, forward, strike, time }
+    quote(side, price, forward, strike, time)
 }
 
 /// A price next to a branch of a quote, whose own is q's: intrinsic, bound, no time value, 1e-5 and b_max of the normalised price.
@@ -764,7 +793,7 @@ pub fn edge_price(rng: &mut Rng, q: Quote) -> f64 {
 }
 
 /// A quote next to a branch.
-fn edge(rng: &mut Rng) -> Quote {
+pub fn edge(rng: &mut Rng) -> Quote {
     let mut q = desk(rng);
     if rng.below(3) == 0 {
         [q.forward, q.strike] = forward_and_strike(rng);
@@ -798,7 +827,7 @@ fn edge(rng: &mut Rng) -> Quote {
     q
 }
 
-fn neighbour(rng: &mut Rng) -> Quote {
+pub fn neighbour(rng: &mut Rng) -> Quote {
     let mut q = desk(rng);
     match rng.below(4) {
         0 => q.price = rng.near(q.price),
@@ -814,7 +843,7 @@ fn neighbour(rng: &mut Rng) -> Quote {
     q
 }
 
-fn subnormal(rng: &mut Rng) -> Quote {
+pub fn subnormal(rng: &mut Rng) -> Quote {
     let small = |rng: &mut Rng| {
         let width = rng.below(53);
         f64::from_bits((rng.bits() >> (11 + width)) + 1)
@@ -830,14 +859,14 @@ fn subnormal(rng: &mut Rng) -> Quote {
         _ => floor + least * rng.unit(),
     };
     let time = if rng.below(4) == 0 { small(rng) } else { rng.magnitude(-10, 4) };
-    Quote { side, price, forward, strike, time }
+    quote(side, price, forward, strike, time)
 }
 
-fn bits(rng: &mut Rng) -> Quote {
+pub fn bits(rng: &mut Rng) -> Quote {
     let side = if rng.below(10) == 0 { rng.bits() as u32 } else { rng.below(2) as u32 };
     let positive = rng.below(2) == 0;
     let figure = |rng: &mut Rng| if positive { rng.finite().abs() } else { rng.any() };
-    Quote { side, price: figure(rng), forward: figure(rng), strike: figure(rng), time: figure(rng) }
+    quote(side, figure(rng), figure(rng), figure(rng), figure(rng))
 }
 
 /// x times 4^n where that is exact and, for a forward or strike, at least 2^-1022.
@@ -884,7 +913,7 @@ pub fn pair(rng: &mut Rng, exchanged: bool) -> [Quote; 2] {
             continue;
         }
         let (forward, strike) = if exchanged { (strike, forward) } else { (forward, strike) };
-        return [q, Quote { side, price, forward, strike, time }];
+        return [q, quote(side, price, forward, strike, time)];
     }
 }
 
@@ -910,10 +939,6 @@ fn searched(rng: &mut Rng, on_survival_path: bool) -> Quote {
     }
     q.price = if gap > 0.0 && share >= 1.0e-4 { gap + least * share } else { least * share };
     q
-}
-
-fn quote(side: u32, price: f64, forward: f64, strike: f64, time: f64) -> Quote {
-    Quote { side, price, forward, strike, time }
 }
 
 /// Two quotes, each followed by itself with price, forward and strike doubled. The first two have other totals; of the other two one is
@@ -1046,6 +1071,10 @@ pub fn known() -> Vec<Quote> {
     [examples(), doubled().to_vec(), vec![longest()], minus_zeros(), refused()].concat()
 }
 
+/// How many quotes of the kept sheet are not discounted; they come first. With so many, a part that the program prints ends where the next line lacks
+/// one byte of room.
+const UNDISCOUNTED_KEPT: usize = 710;
+
 /// The quotes of the sheet that the repository keeps: 1,000.
 pub fn kept(seed: u64) -> Vec<Quote> {
     let mut list = [known(), limits()].concat();
@@ -1054,8 +1083,10 @@ pub fn kept(seed: u64) -> Vec<Quote> {
         list.extend((0..125).map(|_| searched(&mut rng, on_survival_path)));
     }
     let mut kinds: Vec<Quotes> = (0..KINDS.len()).map(|kind| Quotes::new(kind, seed)).collect();
-    let drawn = list.len();
-    list.extend((drawn..1000).map(|i| kinds[i % KINDS.len()].next()));
+    let (plain, discounted) = kinds.split_at_mut(PLAIN_KINDS);
+    list.extend((list.len()..UNDISCOUNTED_KEPT).map(|i| plain[i % plain.len()].next()));
+    list.extend(discounts());
+    list.extend((list.len()..1000).map(|i| discounted[i % discounted.len()].next()));
     list
 }
 
@@ -1109,8 +1140,14 @@ impl Quotes {
             2 => neighbour(rng),
             3 => subnormal(rng),
             4 => bits(rng),
+            5 | 6 => {
+                let [q, other] = pair(rng, self.kind == 6);
+                self.second = Some(other);
+                q
+            }
+            kind @ 7..=11 => drawn(kind - PLAIN_KINDS, rng),
             kind => {
-                let [q, other] = pair(rng, kind == 6);
+                let [q, other] = factor_pair(rng, kind == 13);
                 self.second = Some(other);
                 q
             }

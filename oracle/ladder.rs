@@ -1,6 +1,7 @@
-//! The ladder, from the words of its request: each place is the quote by itself, answered by the source. The request's words count the strike
-//! roots, and not the source, which takes them where it needs them.
+//! The ladder, from the words of its request: each place is the quote by itself with the factor 1, answered by the source. The request's words count
+//! the strike roots, and not the source, which takes them where it needs them.
 
+use crate::inputs::UNDISCOUNTED;
 use crate::ladder_inputs::Ladder;
 use crate::quote::{Outcome, quote};
 use std::fmt::Write;
@@ -23,9 +24,9 @@ pub struct Lent {
     pub refusals: Vec<u32>,
 }
 
-/// Whether a quote's strike root is taken: none of tests 1 to 6 refuses it, the time is above 0 and the price below the bound.
+/// Whether a place's strike root is taken: none of tests 1 to 6 refuses it, the time is above 0 and the price below the bound.
 pub fn takes_root(side: u32, price: f64, forward: f64, strike: f64, time: f64) -> bool {
-    root_taken(quote(side, price, forward, strike, time), side, price, forward, strike, time)
+    root_taken(quote(side, price, forward, strike, time, UNDISCOUNTED), side, price, forward, strike, time)
 }
 
 fn root_taken(outcome: Outcome, side: u32, price: f64, forward: f64, strike: f64, time: f64) -> bool {
@@ -57,7 +58,7 @@ pub fn ladder(
     }
     let mut roots = 0;
     for i in 0..places {
-        let outcome = quote(side, prices[i], forward, strikes[i], time);
+        let outcome = quote(side, prices[i], forward, strikes[i], time, UNDISCOUNTED);
         (totals[i], volatilities[i], counts[i], refusals[i]) = match outcome {
             Outcome::Answer { total, volatility, count } => (total, volatility, count, 0),
             Outcome::Refusal { number, count } => (0.0, 0.0, count, number),

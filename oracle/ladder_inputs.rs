@@ -2,8 +2,8 @@
 //! Needs nothing of the source; the same seed gives the same inputs on every machine.
 
 use crate::inputs::{
-    NANS, Quote, Quotes, Rng, black, desk, edge_price, edges, known, pair, power, scaled_exactly, step, strike_beside,
-    times_power,
+    NANS, Quote, Quotes, Rng, black, desk, edge_price, edges, known, pair, power, quote, scaled_exactly, step,
+    strike_beside, times_power,
 };
 use crate::standin::exp;
 use std::collections::BTreeMap;
@@ -56,7 +56,7 @@ impl Ladder {
     /// The quote of a place that has a strike and a price.
     pub fn quote(&self, i: usize) -> Quote {
         let Ladder { side, forward, time, .. } = *self;
-        Quote { side, price: self.prices[i], forward, strike: self.strikes[i], time }
+        quote(side, self.prices[i], forward, self.strikes[i], time)
     }
 }
 
@@ -297,7 +297,7 @@ fn faults() -> Vec<(f64, f64)> {
 
 /// The faults at a good side, forward and time; at time zero of either sign; at a fault of side, forward or time, or two.
 fn kept_faults() -> Vec<Ladder> {
-    let good = Quote { side: 0, price: 0.0, forward: 100.0, strike: 0.0, time: 1.0 };
+    let good = quote(0, 0.0, 100.0, 0.0, 1.0);
     let mut heads = vec![good];
     heads.extend([0.0, -0.0, -power(-1074), f64::INFINITY, f64::NAN].map(|time| Quote { time, ..good }));
     heads.extend([0.0, -0.0, -100.0, f64::INFINITY, f64::NAN].map(|forward| Quote { forward, ..good }));

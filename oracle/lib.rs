@@ -4,6 +4,7 @@ pub mod explicit_black;
 pub mod fused_multiply_add;
 pub mod lets_be_rational;
 
+pub mod discount_inputs;
 pub mod functions;
 pub mod inputs;
 pub mod ladder;

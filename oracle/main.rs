@@ -101,7 +101,7 @@ fn windows() -> io::Result<()> {
 fn sheet() -> io::Result<()> {
     let mut bytes = Vec::new();
     // One byte more than the longest sheet is enough to refuse.
-    io::stdin().lock().take(4 + 36 * 1000 + 1).read_to_end(&mut bytes)?;
+    io::stdin().lock().take(oracle::sheet::MAX_BYTES as u64 + 1).read_to_end(&mut bytes)?;
     io::stdout().write_all(oracle::sheet::text(&bytes).as_bytes())
 }
 

@@ -2,6 +2,7 @@
 
 use crate::DefaultSpecialFn;
 use crate::lets_be_rational::bs_option_price::{black_input_unchecked, negative_abs_log_moneyness, normalised_black};
+use crate::inputs::UNDISCOUNTED;
 use crate::quote::first_refusal;
 
 #[derive(Clone, Copy, Debug)]
@@ -30,7 +31,7 @@ pub fn time_value(volatility: f64, forward: f64, strike: f64, time: f64) -> f64 
 
 /// The price entry. A volatility of minus zero is not below 0.
 pub fn price(side: u32, volatility: f64, forward: f64, strike: f64, time: f64) -> Outcome {
-    if let Some(number) = first_refusal(side, volatility, forward, strike, time) {
+    if let Some(number) = first_refusal(side, volatility, forward, strike, time, UNDISCOUNTED) {
         return Outcome::Refusal { number, count: 0 };
     }
     if volatility < 0.0 {

@@ -1,5 +1,5 @@
-//! The entries of docs/REQUIREMENTS.md around the source's own two: tests 1 to 4 before the call, a `None` as one of 5 to 9, departure two
-//! after it.
+//! The entries of docs/REQUIREMENTS.md around the source's own two: tests 1 to 4 and 15 and the division by the factor before the call, a `None`
+//! as one of 5 to 9, departure two after it.
 
 use crate::DefaultSpecialFn;
 use crate::evaluations::counted;
@@ -25,23 +25,26 @@ impl Outcome {
     }
 }
 
-/// Tests 1 to 4, which the source does not make. The price entry hands its volatility in the price's place.
-pub fn first_refusal(side: u32, price: f64, forward: f64, strike: f64, time: f64) -> Option<u32> {
+/// Tests 1 to 4 and 15, which the source does not make. The price entry hands its volatility in the price's place, and the factor 1.
+pub fn first_refusal(side: u32, price: f64, forward: f64, strike: f64, time: f64, factor: f64) -> Option<u32> {
     if side > 1 {
         return Some(1);
     }
-    if [price, forward, strike, time].iter().any(|figure| !figure.is_finite()) {
+    if [price, forward, strike, time, factor].iter().any(|figure| !figure.is_finite()) {
         return Some(2);
     }
     if !(forward > 0.0 && strike > 0.0) {
         return Some(3);
     }
-    (time < 0.0).then_some(4)
+    if time < 0.0 {
+        return Some(4);
+    }
+    (!(factor > 0.0)).then_some(15)
 }
 
-/// Whether tests 1 to 4 pass: the domain on which the requirements have the source's answer.
-pub fn on_domain(side: u32, price: f64, forward: f64, strike: f64, time: f64) -> bool {
-    first_refusal(side, price, forward, strike, time).is_none()
+/// Whether tests 1 to 4 and 15 pass: the domain on which the requirements have the source's answer to the divided price.
+pub fn on_domain(side: u32, price: f64, forward: f64, strike: f64, time: f64, factor: f64) -> bool {
+    first_refusal(side, price, forward, strike, time, factor).is_none()
 }
 
 /// The source's quote entry.
@@ -64,11 +67,14 @@ fn normalised_number(log_moneyness: f64, price: f64) -> u32 {
     }
 }
 
-/// The table's number for a `None` of the quote entry.
+/// The table's number for a `None` of the quote entry, which got this price. It is infinite where the quotient overflows.
 fn number(side: u32, price: f64, forward: f64, strike: f64, time: f64) -> u32 {
     let (bound, intrinsic) = if side == 0 { (forward, forward - strike) } else { (strike, strike - forward) };
     if time == 0.0 {
         return 5;
+    }
+    if price.is_infinite() {
+        return if price > 0.0 { 6 } else { 7 };
     }
     if price > bound {
         return 6;
@@ -110,16 +116,22 @@ pub fn normalised(log_moneyness: f64, price: f64) -> Outcome {
     outcome(total, total, count, || normalised_number(log_moneyness, price))
 }
 
-/// The quote entry. Its total is the source's value at time 1: a division by √1 changes nothing, and what comes before it turns only on
-/// whether the time is zero. At time zero it is 0.
-pub fn quote(side: u32, price: f64, forward: f64, strike: f64, time: f64) -> Outcome {
-    if let Some(number) = first_refusal(side, price, forward, strike, time) {
-        return Outcome::Refusal { number, count: 0 };
+/// The quote entry: tests 1 to 4 and 15, and the source fed the divided price.
+pub fn quote(side: u32, price: f64, forward: f64, strike: f64, time: f64, factor: f64) -> Outcome {
+    match first_refusal(side, price, forward, strike, time, factor) {
+        Some(number) => Outcome::Refusal { number, count: 0 },
+        None => solved(side, price / factor, forward, strike, time),
     }
+}
+
+/// What follows the division. The total is the source's value at time 1: a division by √1 changes nothing, and what comes before it turns only
+/// on whether the time is zero. At time zero it is 0.
+fn solved(side: u32, price: f64, forward: f64, strike: f64, time: f64) -> Outcome {
     let at = |time: f64| counted(|| input(side, price, forward, strike, time));
     let (volatility, count) = at(time);
     let (total, at_one) = if time == 0.0 { (volatility.map(|_| 0.0), count) } else { at(1.0) };
     assert_eq!(count, at_one, "evaluations at the quote's time and at time 1");
+    assert!(price.is_finite() || volatility.is_none(), "the source answers a quotient that overflows");
     let result = outcome(volatility, total, count, || number(side, price, forward, strike, time));
     if let Outcome::Answer { total, volatility, .. } = result {
         let right = if time == 0.0 { 0.0 } else { total / time.sqrt() };

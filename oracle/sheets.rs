@@ -1,7 +1,7 @@
 //! Drawn sheets, printed line by line by the proved library, beside the oracle's whole texts.
 
 use oracle::inputs::{KINDS, Quote, Quotes, Rng, at_bound, desk, forward_and_strike, power};
-use oracle::sheet::text;
+use oracle::sheet::{QUOTE_BYTES, text};
 use std::process::exit;
 
 unsafe extern "C" {
@@ -108,11 +108,11 @@ fn at_limit(rng: &mut Rng) -> Quote {
     if rng.below(4) == 0 { Quote { price: rng.near(q.price), ..q } } else { q }
 }
 
-/// A desk's quote with a fault for one of tests 1 to 7.
+/// A desk's quote with a fault for one of tests 1 to 7 and 15.
 fn faulty(rng: &mut Rng) -> Quote {
     let mut q = desk(rng);
     let not_finite = [f64::NAN, f64::INFINITY, f64::NEG_INFINITY];
-    match rng.below(9) {
+    match rng.below(11) {
         0 => q.side = rng.one_of(&[2, 3, 256, 1 << 31, u32::MAX]),
         1 => q.price = rng.one_of(&not_finite),
         2 => q.time = rng.one_of(&not_finite),
@@ -121,22 +121,27 @@ fn faulty(rng: &mut Rng) -> Quote {
         5 => q.time = -q.time,
         6 => q.time = 0.0,
         7 => q.price = q.forward + q.strike,
+        8 => q.factor = rng.one_of(&not_finite),
+        9 => q.factor = rng.one_of(&[0.0, -0.0, -1.0, -power(-1074)]),
         _ => q.price = -1.0 - q.price,
     }
     q
 }
 
 fn any_bits(rng: &mut Rng) -> Quote {
-    Quote { side: rng.below(4) as u32, price: rng.any(), forward: rng.any(), strike: rng.any(), time: rng.any() }
+    let [price, forward, strike, time, factor] = [(); 5].map(|_| rng.any());
+    Quote { side: rng.below(4) as u32, price, forward, strike, time, factor }
 }
 
 /// Gives a sheet another length, or another count, now and then the same.
 fn spoil(rng: &mut Rng, sheet: &mut Vec<u8>) {
     let length = sheet.len();
-    match rng.below(4) {
+    match rng.below(5) {
         0 => sheet.truncate(rng.below(4) as usize),
         1 => sheet.truncate(rng.below(length as u64) as usize),
-        2 => sheet.resize(length + 1 + rng.below(72) as usize, 0),
+        // As long as a sheet without factors.
+        2 => sheet.truncate(length - 8 * (length / QUOTE_BYTES)),
+        3 => sheet.resize(length + 1 + rng.below(88) as usize, 0),
         _ => {
             let any = rng.bits() as u32;
             let count = rng.one_of(&[0, 1, 2, 12, 13, 1000, 1001, 1 << 31, u32::MAX, any]);
@@ -170,7 +175,7 @@ impl Draws {
         Draws { rng: Rng::new(seed), kinds: (0..KINDS.len()).map(|kind| Quotes::new(kind, seed)).collect() }
     }
 
-    /// From one of ten pools: the kinds of oracle/generate and three here.
+    /// From a pool: one of the kinds of oracle/generate, or one of three here.
     fn quote(&mut self, pool: usize) -> Quote {
         match self.kinds.get_mut(pool) {
             Some(kind) => kind.next(),
@@ -190,7 +195,8 @@ impl Draws {
             let pool = only.unwrap_or(self.rng.below(pools));
             let q = self.quote(pool as usize);
             sheet.extend(q.side.to_be_bytes());
-            [q.price, q.forward, q.strike, q.time].iter().for_each(|figure| sheet.extend(figure.to_bits().to_be_bytes()));
+            let figures = [q.price, q.forward, q.strike, q.time, q.factor];
+            figures.iter().for_each(|figure| sheet.extend(figure.to_bits().to_be_bytes()));
         }
         if self.rng.below(16) == 0 {
             spoil(&mut self.rng, &mut sheet);
@@ -222,7 +228,7 @@ fn printed(sheet: &[u8]) -> (String, Tally) {
 
 /// The fields of the quote with so many before it, where the sheet has it.
 fn fields(sheet: &[u8], before: usize) -> String {
-    let Some(quote) = sheet.get(4..).and_then(|quotes| quotes.chunks_exact(36).nth(before)) else {
+    let Some(quote) = sheet.get(4..).and_then(|quotes| quotes.chunks_exact(QUOTE_BYTES).nth(before)) else {
         return "no quote".to_string();
     };
     let side = u32::from_be_bytes(quote[..4].try_into().unwrap());

@@ -1,5 +1,7 @@
-//! The cable window, from the words of its request: fields with names, shown as 64 bytes. A solve is the quote, answered by the source.
+//! The cable window, from the words of its request: fields with names, shown as 64 bytes. A solve is the quote with the factor 1,
+//! answered by the source.
 
+use crate::inputs::UNDISCOUNTED;
 use crate::quote::{Outcome, quote};
 use crate::window_inputs::WordWrite;
 use std::fmt::Write;
@@ -89,7 +91,7 @@ impl Window {
     fn solve(&mut self) {
         let [price, forward, strike, time] = [self.price, self.forward, self.strike, self.time].map(f64::from_bits);
         let (done, interrupt) = (1, 1 << 2);
-        let count = match quote(self.side, price, forward, strike, time) {
+        let count = match quote(self.side, price, forward, strike, time, UNDISCOUNTED) {
             Outcome::Answer { total, volatility, count } => {
                 self.status = done | interrupt;
                 (self.total, self.volatility) = (total.to_bits(), volatility.to_bits());

@@ -1,7 +1,7 @@
 //! Lists of words written to a cable window, of each kind; the lists that the repository keeps.
 //! Needs nothing of the source; the same seed gives the same inputs on every machine.
 
-use crate::inputs::{NANS, Quote, Quotes, Rng, desk, edges, examples, known, limits, power, step};
+use crate::inputs::{NANS, Quote, Quotes, Rng, desk, edges, examples, known, limits, power, quote, step};
 use crate::ladder_inputs::bad_figure;
 use std::vec::IntoIter;
 
@@ -237,10 +237,6 @@ fn rewritten(rng: &mut Rng, q: Quote, other: Quote) -> List {
 }
 
 // ---- what each kind begins with
-
-fn quote(side: u32, price: f64, forward: f64, strike: f64, time: f64) -> Quote {
-    Quote { side, price, forward, strike, time }
-}
 
 /// The desk's call, which has the total 0.155 after 12 evaluations.
 fn call() -> Quote {

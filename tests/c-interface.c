@@ -75,12 +75,18 @@ static void value(const char *what, double found, double right)
 }
 
 /* A refusal leaves the figures as they were; refusals known here and the answers known here count 0. */
-static void quote(const char *what, uint32_t side, double price, double forward, double strike, double time, uint32_t number, double figures)
+static void discounted(const char *what, uint32_t side, double price, double forward, double strike, double time, double factor, uint32_t number,
+                       double figures)
 {
     double total = UNTOUCHED, volatility = UNTOUCHED, right = number == 0 ? figures : UNTOUCHED;
     uint64_t count = 7;
-    uint32_t found = quoter_quote(side, price, forward, strike, time, &total, &volatility, &count);
+    uint32_t found = quoter_quote(side, price, forward, strike, time, factor, &total, &volatility, &count);
     check(what, found == number && bits(total) == bits(right) && bits(volatility) == bits(right) && count == 0);
+}
+
+static void quote(const char *what, uint32_t side, double price, double forward, double strike, double time, uint32_t number, double figures)
+{
+    discounted(what, side, price, forward, strike, time, 1.0, number, figures);
 }
 
 static void normalised(const char *what, double log_moneyness, double price, uint32_t number)
@@ -127,15 +133,77 @@ static void known_replies(void)
     normalised("refusal 9, normalised", 0x1p-1074, 0.5, 9);
 }
 
-/* A quote and the put that the requirements pair with it: equal totals, equal counts. */
+/* By the words: the quotient at the bound and next to it, at the intrinsic value at time zero; test 6 is of the quotient and not of the price. */
+static void known_quotients(void)
+{
+    discounted("quotient at its bound", 0, 50.0, 100.0, 120.0, 1.0, 0.5, 0, INFINITY);
+    discounted("quotient at its bound, put", 1, 240.0, 100.0, 120.0, 1.0, 2.0, 0, INFINITY);
+    discounted("quotient one unit above", 0, 50.0 + 0x1p-47, 100.0, 120.0, 1.0, 0.5, 6, 0.0);
+    discounted("quotient above", 0, 51.0, 100.0, 120.0, 1.0, 0.5, 6, 0.0);
+    discounted("price zero, factor 0.5", 0, 0.0, 100.0, 120.0, 1.0, 0.5, 0, 0.0);
+    discounted("price minus zero, factor 0.5", 0, -0.0, 100.0, 120.0, 1.0, 0.5, 0, 0.0);
+    discounted("intrinsic, factor 0.5", 0, 10.0, 120.0, 100.0, 1.0, 0.5, 0, 0.0);
+    discounted("intrinsic at time zero, factor 2", 1, 40.0, 100.0, 120.0, 0.0, 2.0, 0, 0.0);
+    discounted("price intrinsic, quotient not", 0, 20.0, 120.0, 100.0, 0.0, 0.5, 5, 0.0);
+    discounted("quotient below the intrinsic value", 1, 30.0, 100.0, 120.0, 1.0, 2.0, 7, 0.0);
+    discounted("factor 2^-1074", 0, 0x1p-1074, 1.0, 2.0, 1.0, 0x1p-1074, 0, INFINITY);
+    discounted("largest factor", 0, DBL_MAX, 1.0, 2.0, 1.0, DBL_MAX, 0, INFINITY);
+    discounted("tie rounded to 0", 0, 0x1p-1074, 100.0, 120.0, 1.0, 2.0, 0, 0.0);
+    discounted("tie rounded to minus zero", 0, -0x1p-1074, 100.0, 120.0, 0.0, 2.0, 0, 0.0);
+    discounted("tie rounded to 2 units, the bound", 0, 0x3p-1074, 0x2p-1074, 1.0, 1.0, 2.0, 0, INFINITY);
+    for (int put = 0; put < 2; put++) {
+        uint32_t side = (uint32_t)put;
+        discounted("overflow", side, DBL_MAX, 100.0, 120.0, 1.0, 0.5, 6, 0.0);
+        discounted("overflow, by one unit below 1", side, DBL_MAX, DBL_MAX, DBL_MAX, 0x1p-1074, 1.0 - 0x1p-53, 6, 0.0);
+        discounted("overflow below 0", side, -1.0, 100.0, 120.0, 1.0, 0x1p-1074, 7, 0.0);
+        discounted("overflow at time zero", side, DBL_MAX, 100.0, 120.0, 0.0, 0.5, 5, 0.0);
+        discounted("overflow below 0 at time minus zero", side, -DBL_MAX, 100.0, 120.0, -0.0, 0.5, 5, 0.0);
+    }
+}
+
+/* Refusals 2 and 15 of the factor, and of two that apply the first. */
+static void known_factors(void)
+{
+    static const uint64_t nans[4] = {0x7FF8000000000000, 0xFFF0000000000001, 0x7FF0000000000001, 0xFFFFFFFFFFFFFFFF};
+    static const double not_above[5] = {0.0, -0.0, -0x1p-1074, -1.0, -DBL_MAX};
+    for (int i = 0; i < 4; i++) {
+        double nan;
+        memcpy(&nan, &nans[i], sizeof nan);
+        discounted("factor NaN", 0, 1.0, 100.0, 120.0, 1.0, nan, 2, 0.0);
+        discounted("factor NaN, 1 before 2", 2, 1.0, 100.0, 120.0, 1.0, nan, 1, 0.0);
+        discounted("factor NaN, 2 before 3 and 4", 1, 1.0, 0.0, 120.0, -1.0, nan, 2, 0.0);
+    }
+    discounted("factor infinite", 0, 1.0, 100.0, 120.0, 1.0, INFINITY, 2, 0.0);
+    discounted("factor -infinite", 0, 1.0, 100.0, 120.0, 0.0, -INFINITY, 2, 0.0);
+    for (int i = 0; i < 5; i++) {
+        double factor = not_above[i];
+        discounted("refusal 15", 0, 1.0, 100.0, 120.0, 1.0, factor, 15, 0.0);
+        discounted("refusal 15, price zero", 1, 0.0, 100.0, 120.0, 1.0, factor, 15, 0.0);
+        discounted("15 before 5", 0, 19.0, 120.0, 100.0, 0.0, factor, 15, 0.0);
+        discounted("15 before 6", 0, 101.0, 100.0, 120.0, 1.0, factor, 15, 0.0);
+        discounted("15 before 7", 1, 5.0, 100.0, 120.0, 1.0, factor, 15, 0.0);
+        discounted("4 before 15", 0, 1.0, 100.0, 120.0, -1.0, factor, 4, 0.0);
+        discounted("3 before 15", 0, 1.0, 100.0, -1.0, 1.0, factor, 3, 0.0);
+        discounted("2 before 15", 0, NAN, 100.0, 120.0, 1.0, factor, 2, 0.0);
+        discounted("1 before 15", UINT32_MAX, 1.0, 100.0, 120.0, 1.0, factor, 1, 0.0);
+    }
+}
+
+/* A quote, the put that the requirements pair with it, and both discounted: equal totals, equal counts. */
 static void known_pair(void)
 {
-    double total[2] = {UNTOUCHED, UNTOUCHED}, volatility[2];
-    uint64_t count[2];
-    uint32_t call = quoter_quote(0, 1.0, 100.0, 120.0, 1.0, &total[0], &volatility[0], &count[0]);
-    uint32_t put = quoter_quote(1, 4.0, 480.0, 400.0, 1.0, &total[1], &volatility[1], &count[1]);
-    int agree = total[0] > 0.0 && bits(total[0]) == bits(total[1]) && bits(volatility[0]) == bits(total[0]);
-    check("call and put", call == 0 && put == 0 && agree && count[0] == count[1] && count[0] > 0);
+    double first = UNTOUCHED, first_volatility = UNTOUCHED;
+    uint64_t first_count = 0;
+    check("call", quoter_quote(0, 1.0, 100.0, 120.0, 1.0, 1.0, &first, &first_volatility, &first_count) == 0 && first > 0.0 && first_count > 0);
+    static const double factors[6] = {1.0, 0.5, 2.0, 0.25, 0.95, 0x1p-1074};
+    for (int i = 0; i < 6; i++) {
+        double total[2] = {UNTOUCHED, UNTOUCHED}, volatility[2], factor = factors[i];
+        uint64_t count[2];
+        uint32_t call = quoter_quote(0, factor, 100.0, 120.0, 1.0, factor, &total[0], &volatility[0], &count[0]);
+        uint32_t put = quoter_quote(1, 4.0 * factor, 480.0, 400.0, 1.0, factor, &total[1], &volatility[1], &count[1]);
+        int agree = bits(total[0]) == bits(first) && bits(total[1]) == bits(first) && bits(volatility[0]) == bits(first);
+        check("call and put", call == 0 && put == 0 && agree && count[0] == first_count && count[1] == first_count);
+    }
 }
 
 /* A price. A refusal leaves its place as it was. */
@@ -278,7 +346,7 @@ static int by_itself(uint32_t side, double forward, double time, const struct pl
 {
     double total = 0.0, volatility = 0.0;
     uint64_t count = 7;
-    uint32_t number = quoter_quote(side, p->price, forward, p->strike, time, &total, &volatility, &count);
+    uint32_t number = quoter_quote(side, p->price, forward, p->strike, time, 1.0, &total, &volatility, &count);
     right->totals[at] = total;
     right->volatilities[at] = volatility;
     right->counts[at] = count;
@@ -393,7 +461,7 @@ static int in_mode(void)
 {
     double total = UNTOUCHED, volatility = UNTOUCHED;
     uint64_t count = 7;
-    uint32_t found = quoter_quote(0, 0x4p-1074, 0x5p-1074, 0x2p-1074, 1.0, &total, &volatility, &count);
+    uint32_t found = quoter_quote(0, 0x4p-1074, 0x5p-1074, 0x2p-1074, 1.0, 1.0, &total, &volatility, &count);
     return found == 0 && bits(total) == 0x40000BF0F86ED205 && bits(volatility) == bits(total) && count == 6;
 }
 
@@ -413,10 +481,12 @@ static void known_modes(void)
 /* The fields of a quote, and what the words say of it: its refusal or 0, and its total, which is also its volatility. */
 struct listed {
     uint32_t side;
-    double price, forward, strike, time;
+    double price, forward, strike, time, factor;
     uint32_t number;
     double total;
 };
+
+enum { QUOTE = 44 }; /* bytes in a sheet */
 
 /* Writes a sheet of the list's quotes over and over; its length in bytes. */
 static uint64_t write_sheet(uint8_t *sheet, const struct listed *list, int listed, int quotes)
@@ -424,20 +494,20 @@ static uint64_t write_sheet(uint8_t *sheet, const struct listed *list, int liste
     put(sheet, (uint64_t)quotes, 4);
     for (int i = 0; i < quotes; i++) {
         const struct listed *q = &list[i % listed];
-        const double figures[4] = {q->price, q->forward, q->strike, q->time};
-        put(sheet + 4 + 36 * i, q->side, 4);
-        for (int j = 0; j < 4; j++)
-            put(sheet + 8 + 36 * i + 8 * j, bits(figures[j]), 8);
+        const double figures[5] = {q->price, q->forward, q->strike, q->time, q->factor};
+        put(sheet + 4 + QUOTE * i, q->side, 4);
+        for (int j = 0; j < 5; j++)
+            put(sheet + 8 + QUOTE * i + 8 * j, bits(figures[j]), 8);
     }
-    return 4 + 36 * (uint64_t)quotes;
+    return 4 + QUOTE * (uint64_t)quotes;
 }
 
 /* The sample of docs/REQUIREMENTS.md: 3 quotes, and the 4 lines of its text. */
 static const struct listed SAMPLE[3] = {
-    {0, 0.0, 100.0, 120.0, 1.0, 0, 0.0}, {0, 100.0, 100.0, 120.0, 1.0, 0, INFINITY}, {1, 5.0, 100.0, 120.0, 1.0, 7, 0.0}};
+    {0, 0.0, 100.0, 120.0, 1.0, 1.0, 0, 0.0}, {0, 100.0, 100.0, 120.0, 1.0, 1.0, 0, INFINITY}, {1, 5.0, 100.0, 120.0, 1.0, 1.0, 7, 0.0}};
 static const char *LINES[4] = {
     "1 V 0000000000000000 0000000000000000 0\n", "2 V 7ff0000000000000 7ff0000000000000 0\n", "3 R 7 0\n", "T 1 1 1\n"};
-static uint8_t sample[4 + 36 * 3];
+static uint8_t sample[4 + QUOTE * 3];
 
 /* The number that a sheet gives, and its number of quotes, which a refusal leaves as it was. */
 static void size(const char *what, const uint8_t *sheet, uint64_t length, uint32_t number, uint32_t right)
@@ -448,19 +518,21 @@ static void size(const char *what, const uint8_t *sheet, uint64_t length, uint32
 
 static void known_sizes(void)
 {
-    static uint8_t sheet[4 + 36 * 1001];
+    static uint8_t sheet[4 + QUOTE * 1001];
     size("size of the sample", sample, sizeof sample, 0, 3);
     size("one byte less", sample, sizeof sample - 1, 10, 0);
+    size("3 quotes without factors", sample, 4 + 36 * 3, 10, 0);
     size("3 bytes", sample, 3, 10, 0);
     size("no bytes", sample, 0, 10, 0);
     size("no bytes and no pointer", NULL, 0, 10, 0);
     size("no quotes", sheet, 4, 0, 0);
     size("no quotes and a byte", sheet, 5, 10, 0);
     put(sheet, 1000, 4);
-    size("1000 quotes", sheet, 4 + 36 * 1000, 0, 1000);
-    size("1000 quotes and a byte", sheet, 4 + 36 * 1000 + 1, 10, 0);
+    size("1000 quotes", sheet, 4 + QUOTE * 1000, 0, 1000);
+    size("1000 quotes and a byte", sheet, 4 + QUOTE * 1000 + 1, 10, 0);
+    size("1000 quotes without factors", sheet, 4 + 36 * 1000, 10, 0);
     put(sheet, 1001, 4);
-    size("1001 quotes", sheet, 4 + 36 * 1001, 10, 0);
+    size("1001 quotes", sheet, 4 + QUOTE * 1001, 10, 0);
 }
 
 /* A quote of a sheet whose figures, where it has any, are both `figures`; 0 evaluations unless nothing is written. */
@@ -575,11 +647,13 @@ static void known_tallies(void)
 /* Prices at their bound, beside other answers and refusals. At time zero such a price is the intrinsic value too, and its answer finite, where
    forward and strike are so far apart that their difference rounds to one of them. */
 static const struct listed LIMITS[] = {
-    {0, 100.0, 100.0, 120.0, 0x1p-1074, 0, INFINITY}, {0, 0.0, 100.0, 120.0, 0x1p-1074, 0, 0.0}, {1, 120.0, 100.0, 120.0, 1.0, 0, INFINITY},
-    {0, 120.0, 120.0, 100.0, DBL_MAX, 0, INFINITY}, {1, 100.0, 120.0, 100.0, 1e-300, 0, INFINITY}, {1, 0.0, 120.0, 100.0, DBL_MAX, 0, 0.0},
-    {2, 100.0, 100.0, 120.0, 1.0, 1, 0.0}, {0, 100.0, 100.0, 120.0, INFINITY, 2, 0.0}, {0, 100.0, 100.0, 120.0, 0.0, 5, 0.0},
-    {0, 100.0, 100.0, 0x1p-1074, 0.0, 0, 0.0}, {0, 100.0, 100.0, 0x1p-1074, 1.0, 0, INFINITY}, {1, 100.0, 0x1p-1074, 100.0, -0.0, 0, 0.0},
-    {0, 100.0 + 0x1p-46, 100.0, 120.0, 1.0, 6, 0.0}, {1, 0x1p-1074, 0x1p-1074, 0x1p-1074, 1e300, 0, INFINITY}, {1, 5.0, 100.0, 120.0, 1.0, 7, 0.0},
+    {0, 100.0, 100.0, 120.0, 0x1p-1074, 1.0, 0, INFINITY}, {0, 0.0, 100.0, 120.0, 0x1p-1074, 1.0, 0, 0.0}, {1, 120.0, 100.0, 120.0, 1.0, 1.0, 0, INFINITY},
+    {0, 120.0, 120.0, 100.0, DBL_MAX, 1.0, 0, INFINITY}, {1, 100.0, 120.0, 100.0, 1e-300, 1.0, 0, INFINITY}, {1, 0.0, 120.0, 100.0, DBL_MAX, 1.0, 0, 0.0},
+    {2, 100.0, 100.0, 120.0, 1.0, 1.0, 1, 0.0}, {0, 100.0, 100.0, 120.0, INFINITY, 1.0, 2, 0.0}, {0, 100.0, 100.0, 120.0, 0.0, 1.0, 5, 0.0},
+    {0, 100.0, 100.0, 0x1p-1074, 0.0, 1.0, 0, 0.0}, {0, 100.0, 100.0, 0x1p-1074, 1.0, 1.0, 0, INFINITY}, {1, 100.0, 0x1p-1074, 100.0, -0.0, 1.0, 0, 0.0},
+    {0, 100.0 + 0x1p-46, 100.0, 120.0, 1.0, 1.0, 6, 0.0}, {1, 0x1p-1074, 0x1p-1074, 0x1p-1074, 1e300, 1.0, 0, INFINITY},
+    {1, 5.0, 100.0, 120.0, 1.0, 1.0, 7, 0.0}, {0, 50.0, 100.0, 120.0, 1.0, 0.5, 0, INFINITY}, {0, 50.0, 100.0, 120.0, 1.0, -0.5, 15, 0.0},
+    {0, 100.0, 100.0, 120.0, 1.0, NAN, 2, 0.0}, {1, 60.0, 100.0, 120.0, 0.0, 0.5, 5, 0.0}, {1, 40.0, 100.0, 120.0, 0.0, 2.0, 0, 0.0},
 };
 
 /* One more, by what the words say of the quote. */
@@ -597,7 +671,7 @@ static struct tally with(struct tally t, const struct listed *q)
 /* A sheet of the list's quotes over and over, line by line as a caller prints it, who counts nothing. */
 static void walk(const char *what, const struct listed *list, int listed, int quotes)
 {
-    static uint8_t sheet[4 + 36 * 1000];
+    static uint8_t sheet[4 + QUOTE * 1000];
     uint64_t length = write_sheet(sheet, list, listed, quotes), count = 0;
     struct tally found = {0, 0, 0}, right = {0, 0, 0};
     char text[46], expected[80];
@@ -618,8 +692,8 @@ static void walk(const char *what, const struct listed *list, int listed, int qu
 /* The tally after the line of a quote by itself, whatever its figures are. */
 static void counted(const char *what, uint32_t side, double price, double forward, double strike, double time, struct tally right)
 {
-    const struct listed q = {side, price, forward, strike, time, 0, 0.0};
-    uint8_t sheet[4 + 36], text[46];
+    const struct listed q = {side, price, forward, strike, time, 1.0, 0, 0.0};
+    uint8_t sheet[4 + QUOTE], text[46];
     uint64_t length = write_sheet(sheet, &q, 1, 1), count;
     struct tally found = {0, 0, 0};
     uint32_t letter = next_line(sheet, length, &found, text, sizeof text, &count);
@@ -698,10 +772,10 @@ static void command(const char *what, struct host *h, uint32_t w)
     writes(what, h, 0, w, 0, right);
 }
 
-/* A quote's nine words, which stand in a window as in a sheet; in that order, or against it. */
+/* A quote's nine words but for its factor, which stand in a window as in a sheet; in that order, or against it. */
 static void set(const char *what, struct host *h, const struct listed *q, int against)
 {
-    uint8_t sheet[4 + 36];
+    uint8_t sheet[4 + QUOTE];
     write_sheet(sheet, q, 1, 1);
     for (int i = 0; i < 9; i++) {
         int at = 4 * (against ? 8 - i : i);
@@ -715,7 +789,7 @@ static void solve(const char *what, struct host *h, const struct listed *q, uint
     struct host right = *h;
     double total = 0.0, volatility = 0.0;
     uint64_t count = 7;
-    uint32_t number = quoter_quote(q->side, q->price, q->forward, q->strike, q->time, &total, &volatility, &count);
+    uint32_t number = quoter_quote(q->side, q->price, q->forward, q->strike, q->time, 1.0, &total, &volatility, &count);
     put(right.window, 0, 4);
     put(right.window + STATUS, DONE | INTERRUPT | (q->number != 0 ? REFUSED | q->number << 8 : 0), 4);
     put(right.window + TOTAL, bits(total), 8);
@@ -726,8 +800,8 @@ static void solve(const char *what, struct host *h, const struct listed *q, uint
 }
 
 /* The desk's call, whose figures are the oracle's, at time 1 and at time 0.25. */
-static const struct listed CALL = {0, 1.0, 100.0, 120.0, 1.0, 0, 0.15509699992515916};
-static const struct listed EARLIER = {0, 1.0, 100.0, 120.0, 0.25, 0, 0.15509699992515916};
+static const struct listed CALL = {0, 1.0, 100.0, 120.0, 1.0, 1.0, 0, 0.15509699992515916};
+static const struct listed EARLIER = {0, 1.0, 100.0, 120.0, 0.25, 1.0, 0, 0.15509699992515916};
 
 /* What a host does: it sets the figures, solves, polls, reads the results, clears the interrupt, and starts again. */
 static void known_host(void)
@@ -754,11 +828,11 @@ static void known_host(void)
 
 /* The table's refusals, and answers that need no search. */
 static const struct listed OUTCOMES[] = {
-    {2, 1.0, 100.0, 100.0, 1.0, 1, 0.0}, {UINT32_MAX, NAN, 0.0, 100.0, -1.0, 1, 0.0}, {0, NAN, 100.0, 100.0, 1.0, 2, 0.0},
-    {1, 1.0, 100.0, 100.0, -INFINITY, 2, 0.0}, {0, 1.0, 0.0, 100.0, 1.0, 3, 0.0}, {0, 1.0, 100.0, 100.0, -1.0, 4, 0.0},
-    {0, 19.0, 120.0, 100.0, 0.0, 5, 0.0}, {0, 101.0, 100.0, 120.0, 1.0, 6, 0.0}, {1, 5.0, 100.0, 120.0, 1.0, 7, 0.0},
-    {1, 92.07499999999999, 184.15, 92.075, 1.0, 8, 0.0}, {0, 0.0, 100.0, 120.0, 1.0, 0, 0.0}, {0, -0.0, 100.0, 120.0, 1.0, 0, 0.0},
-    {0, 100.0, 100.0, 120.0, 1.0, 0, INFINITY}, {0, 20.0, 120.0, 100.0, -0.0, 0, 0.0}, {0, 0.0, 0.0, 0.0, 0.0, 3, 0.0},
+    {2, 1.0, 100.0, 100.0, 1.0, 1.0, 1, 0.0}, {UINT32_MAX, NAN, 0.0, 100.0, -1.0, 1.0, 1, 0.0}, {0, NAN, 100.0, 100.0, 1.0, 1.0, 2, 0.0},
+    {1, 1.0, 100.0, 100.0, -INFINITY, 1.0, 2, 0.0}, {0, 1.0, 0.0, 100.0, 1.0, 1.0, 3, 0.0}, {0, 1.0, 100.0, 100.0, -1.0, 1.0, 4, 0.0},
+    {0, 19.0, 120.0, 100.0, 0.0, 1.0, 5, 0.0}, {0, 101.0, 100.0, 120.0, 1.0, 1.0, 6, 0.0}, {1, 5.0, 100.0, 120.0, 1.0, 1.0, 7, 0.0},
+    {1, 92.07499999999999, 184.15, 92.075, 1.0, 1.0, 8, 0.0}, {0, 0.0, 100.0, 120.0, 1.0, 1.0, 0, 0.0}, {0, -0.0, 100.0, 120.0, 1.0, 1.0, 0, 0.0},
+    {0, 100.0, 100.0, 120.0, 1.0, 1.0, 0, INFINITY}, {0, 20.0, 120.0, 100.0, -0.0, 1.0, 0, 0.0}, {0, 0.0, 0.0, 0.0, 0.0, 1.0, 3, 0.0},
 };
 
 /* Each after the call and before it, its interrupt cleared alone and by the command that solves. */
@@ -799,7 +873,7 @@ static void known_nans(void)
 {
     static const uint64_t patterns[] = {0x7FF8000000000000, 0xFFF8000000000000, 0x7FF0000000000001, 0xFFF0000000000001, 0x7FF4000000000000,
                                         0xFFF7FFFFFFFFFFFF, 0x7FFFFFFFFFFFFFFF, 0xFFFFFFFF00000000, 0x7FF0000000000000, 0xFFF0000000000000};
-    const struct listed refused = {0, NAN, 100.0, 120.0, 1.0, 2, 0.0};
+    const struct listed refused = {0, NAN, 100.0, 120.0, 1.0, 1.0, 2, 0.0};
     for (int place = 0; place < 4; place++) {
         struct host h = filled(0);
         set("figures before a NaN", &h, &CALL, 0);
@@ -874,6 +948,8 @@ static int known(void)
     write_sheet(sample, SAMPLE, 3, 3);
     known_values();
     known_replies();
+    known_quotients();
+    known_factors();
     known_pair();
     known_prices();
     known_price_pairs();
@@ -1109,7 +1185,7 @@ static int windows(void)
 
 int main(int argc, char **argv)
 {
-    static uint8_t sheet[36005];
+    static uint8_t sheet[4 + QUOTE * 1000 + 1];
     const char *mode = argc == 2 ? argv[1] : "";
     if (argc == 1)
         return known();

@@ -46,7 +46,7 @@ static void round_trip(const uint8_t *record)
     uint64_t count = 0;
     uint32_t unpriced = quoter_price(side, figure(record + 4), forward, strike, time, &price);
     if (unpriced == 0)
-        refused = quoter_quote(side, price, forward, strike, time, &total, &volatility, &count);
+        refused = quoter_quote(side, price, forward, strike, time, 1.0, &total, &volatility, &count);
     if (unpriced == 0 && refused == 0)
         again_refused = quoter_price(side, volatility, forward, strike, time, &again);
     print_figure(unpriced, price, " ");

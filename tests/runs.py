@@ -16,16 +16,17 @@ PAUSE = 0.001  # seconds between two pieces of input
 
 
 def packed(*records):
-    """A side and four figures each, in XDR."""
-    return b"".join(struct.pack(">I4d", *fields) for fields in records)
+    """A side and figures each, in XDR."""
+    return b"".join(struct.pack(f">I{len(fields) - 1}d", *fields) for fields in records)
 
 
-def not_finite():
-    """Records with patterns of NaN, quiet and signalling, of both signs, or the infinities, in each figure, and their refusals: 2, and 1 first."""
+def not_finite(*more):
+    """Records with patterns of NaN, quiet and signalling, of both signs, or the infinities, in each figure, and their refusals: 2, and 1 first. Figures
+    are price, forward, strike and time, and `more`."""
     patterns = [sign | bits for sign in (0, 1 << 63) for bits in (0x7FF << 52, (0x7FF << 52) + 1, 0x7FF7 << 48, 0x7FF8 << 48, 0x7FF8000000000001, 2**63 - 1)]
-    good, found = [struct.pack(">d", x) for x in (1.0, 100.0, 120.0, 1.0)], []
+    good, found = [struct.pack(">d", x) for x in (1.0, 100.0, 120.0, 1.0, *more)], []
     for side in (0, 1, 2, 2**32 - 1):
-        for place in range(4):
+        for place in range(len(good)):
             for bits in patterns:
                 fields = good[:place] + [struct.pack(">Q", bits)] + good[place + 1 :]
                 found.append((struct.pack(">I", side) + b"".join(fields), 2 if side < 2 else 1))

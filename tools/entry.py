@@ -22,13 +22,14 @@ REFUSALS = {
     11: "the volatility is below 0",
     12: "the lengths of the six slices are not all equal",
     13: "more than 500 strikes",
+    15: "the factor is not above 0",
 }
 SOLVED = ["volatility", "total volatility", "evaluations"]  # the results of a quote
 
 
 def packed(records):
-    """A side and four figures each, in XDR."""
-    return b"".join(struct.pack(">I4d", *fields) for fields in records)
+    """A side and figures each, in XDR."""
+    return b"".join(struct.pack(f">I{len(fields) - 1}d", *fields) for fields in records)
 
 
 def number(digits):
@@ -69,10 +70,11 @@ def numbered(lines, count, answer, ending):
 
 class Entry:
     """What is asked of a tool: `tool` is its name, `record` that of a line of its files, `crate` the program that answers, `names` are those of a
-    record's fields, and `results` those of what is printed for it."""
+    record's fields, and `results` those of what is printed for it. `defaults` has the values of fields that may be left out, which come last."""
 
-    def __init__(self, tool, record, crate, names, results):
-        self.tool, self.record, self.crate, self.names, self.results = tool, record, crate, names, results
+    def __init__(self, tool, record, crate, names, results, defaults={}):
+        self.tool, self.record, self.crate, self.names, self.results, self.defaults = tool, record, crate, names, results, defaults
+        self.least = len(names) - len(defaults)
         self.program = ROOT / "target/bin" / crate
 
     def stop(self, status, message):
@@ -99,11 +101,20 @@ class Entry:
         return value
 
     def field(self, name, text, where=""):
+        if name in self.defaults and not text.strip():
+            return self.defaults[name]
         return self.side(text, where) if name == "side" else self.figure(name, text, where)
 
+    def fits(self, count):
+        return self.least <= count <= len(self.names)
+
+    def how_many(self):
+        return " or ".join(str(count) for count in range(self.least, len(self.names) + 1))
+
     def fields(self, words, where=""):
-        if len(words) != len(self.names):
-            self.stop(2, f"{where}a {self.record} has {len(self.names)} fields ({', '.join(self.names)}), not {len(words)}")
+        if not self.fits(len(words)):
+            self.stop(2, f"{where}a {self.record} has {self.how_many()} fields ({', '.join(self.names)}), not {len(words)}")
+        words = [*words, *[""] * (len(self.names) - len(words))]
         return tuple(self.field(name, text, where) for name, text in zip(self.names, words))
 
     def records_of(self, path):
@@ -155,11 +166,13 @@ class Entry:
                 print(f"{name.ljust(width)}  {result}")
 
     def table(self, records, replies, summary):
-        rows = [["", *self.names, *self.results]]
+        """A field that has its default in every record has no column."""
+        shown = [k for k, name in enumerate(self.names) if name not in self.defaults or any(fields[k] != self.defaults[name] for fields in records)]
+        rows = [["", *[self.names[k] for k in shown], *self.results]]
         notes = [""]
         for i, (fields, (refusal, results)) in enumerate(zip(records, replies), 1):
             given = [WORDS.get(x, str(x)) if name == "side" else repr(x) for name, x in zip(self.names, fields)]
-            rows.append([str(i), *given, *results])
+            rows.append([str(i), *[given[k] for k in shown], *results])
             notes.append("" if refusal is None else meaning(refusal))
         widths = [max(len(row[k]) for row in rows) for k in range(len(rows[0]))]
         for row, note in zip(rows, notes):
@@ -177,7 +190,7 @@ class Entry:
         """`replies_to` has a pair for each of the records: None or the refusal, and the results as text, `-` for what a refusal leaves out. `tally`
         says of the replies what a table ends with."""
         words = self.words(usage)
-        if len(words) == 5:
+        if self.fits(len(words)):
             given = self.fields(words)
             self.build()
             self.show(*replies_to([given])[0])
@@ -187,4 +200,4 @@ class Entry:
             replies = replies_to(given)
             self.table(given, replies, tally(replies))
         else:
-            self.stop(2, f"five fields or one CSV file\n{usage}")
+            self.stop(2, f"{self.how_many()} fields, or one CSV file\n{usage}")

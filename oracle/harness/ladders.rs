@@ -1,7 +1,7 @@
 //! Ladders: our code beside the oracle, by the result and every element of the lent slices; and pairs of ladders whose places agree.
 
 use crate::ours::ladders::solved as ours;
-use crate::{CORNERS, CURRENT, Tally, bits};
+use crate::{CORNERS, Tally, bits, set_current};
 use oracle::inputs::corners;
 use oracle::ladder::{Lent, Reply, solved as theirs};
 use oracle::ladder_inputs::{LADDER_KINDS, Ladder, Ladders, grouped};
@@ -69,7 +69,7 @@ pub fn fields(ladder: &Ladder, i: usize) -> String {
 pub fn announce(ladder: &Ladder) {
     let [strikes, prices, ..] = ladder.lengths().map(|length| length as u64);
     let input = [ladder.side as u64, ladder.forward.to_bits(), ladder.time.to_bits(), strikes, prices];
-    CURRENT.with(|current| current.set(input));
+    set_current(&input);
 }
 
 /// What the oracle answered over a run.

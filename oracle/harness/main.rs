@@ -7,9 +7,10 @@ mod prices;
 mod roots;
 mod windows;
 
+use oracle::discount_inputs::factor_corners;
 use oracle::evaluations::counted;
 use oracle::functions::NAMES;
-use oracle::inputs::{self, Inputs, KINDS, Quote, Quotes, Rng};
+use oracle::inputs::{self, Inputs, KINDS, Quote, Quotes, Rng, UNDISCOUNTED};
 use oracle::ladder_inputs::LADDER_KINDS;
 use oracle::price_inputs::PRICE_KINDS;
 use oracle::quote::Outcome;
@@ -19,8 +20,9 @@ use std::cell::Cell;
 use std::process::exit;
 use std::time::Instant;
 
-/// Every combination of figures at an edge.
+/// Every combination of figures at an edge; and of prices and factors.
 const CORNERS: &str = "corners";
+const FACTOR_CORNERS: &str = "factor-corners";
 
 /// What either side answers; figures by their bits, every NaN alike.
 #[derive(Clone, Copy, Debug, PartialEq)]
@@ -101,7 +103,14 @@ fn name(function: u32) -> &'static str {
     }
 }
 
-thread_local!(static CURRENT: Cell<[u64; 5]> = const { Cell::new([0; 5]) });
+thread_local!(static CURRENT: Cell<[u64; 6]> = const { Cell::new([0; 6]) });
+
+/// Says which input is run: up to six words.
+fn set_current(input: &[u64]) {
+    let mut words = [0; 6];
+    words[..input.len()].copy_from_slice(input);
+    CURRENT.with(|current| current.set(words));
+}
 
 /// A panic says on which input it came.
 fn report_panics() {
@@ -185,7 +194,7 @@ fn function(number: u32, count: u64, seed: u64) -> u64 {
     for i in 0..count {
         let input = if number > 21 && i % 8 == 7 { met(number, &mut rng) } else { inputs.next() };
         let [a, b, c] = input.map(f64::to_bits);
-        CURRENT.with(|current| current.set([number as u64, a, b, c, 0]));
+        set_current(&[number as u64, a, b, c]);
         let ours = ours::reply(number, input);
         let theirs = oracle_reply(number, input);
         tally.compare(&[a, b, c], ours, theirs);
@@ -201,28 +210,43 @@ fn function(number: u32, count: u64, seed: u64) -> u64 {
 }
 
 fn oracle_quote(q: Quote) -> Reply {
-    oracle::quote::quote(q.side, q.price, q.forward, q.strike, q.time).into()
+    oracle::quote::quote(q.side, q.price, q.forward, q.strike, q.time, q.factor).into()
 }
 
-fn input_of(q: Quote) -> [u64; 5] {
-    [q.side as u64, q.price.to_bits(), q.forward.to_bits(), q.strike.to_bits(), q.time.to_bits()]
+fn our_quote(q: Quote) -> Reply {
+    ours::quotes::quote(q.side, q.price, q.forward, q.strike, q.time, q.factor)
 }
+
+fn input_of(q: Quote) -> [u64; 6] {
+    let [price, forward, strike, time, factor] = [q.price, q.forward, q.strike, q.time, q.factor].map(f64::to_bits);
+    [q.side as u64, price, forward, strike, time, factor]
+}
+
+/// One more than the largest refusal of a quote.
+const NUMBERS: usize = 16;
 
 /// What the source answered over a run of quotes.
 struct Seen {
     on_domain: u64,
     answers: u64,
-    refusals: [u64; 10],
+    refusals: [u64; NUMBERS],
+    /// Of those on the domain with another factor than 1: all, and those whose quotient overflows, is subnormal or is 0 though the price is not.
+    quotients: [u64; 4],
     most: u64,
     longest: Option<Quote>,
 }
 
 impl Seen {
     fn new() -> Seen {
-        Seen { on_domain: 0, answers: 0, refusals: [0; 10], most: 0, longest: None }
+        Seen { on_domain: 0, answers: 0, refusals: [0; NUMBERS], quotients: [0; 4], most: 0, longest: None }
     }
     fn add(&mut self, q: Quote, reply: Reply) {
-        self.on_domain += oracle::quote::on_domain(q.side, q.price, q.forward, q.strike, q.time) as u64;
+        if oracle::quote::on_domain(q.side, q.price, q.forward, q.strike, q.time, q.factor) {
+            self.on_domain += 1;
+            let (quotient, discounted) = (q.price / q.factor, q.factor != UNDISCOUNTED);
+            let kinds = [true, quotient.is_infinite(), quotient.is_subnormal(), quotient == 0.0 && q.price != 0.0];
+            (0..4).for_each(|i| self.quotients[i] += (discounted && kinds[i]) as u64);
+        }
         match reply {
             Reply::Refusal { number, .. } => self.refusals[number as usize] += 1,
             _ => self.answers += 1,
@@ -234,46 +258,64 @@ impl Seen {
     fn join(mut self, other: Seen) -> Seen {
         self.on_domain += other.on_domain;
         self.answers += other.answers;
-        (0..10).for_each(|i| self.refusals[i] += other.refusals[i]);
+        (0..NUMBERS).for_each(|i| self.refusals[i] += other.refusals[i]);
+        (0..4).for_each(|i| self.quotients[i] += other.quotients[i]);
         if other.most > self.most { Seen { most: other.most, longest: other.longest, ..self } } else { self }
     }
     fn show(&self) {
-        let refusals: Vec<String> = (1..10).map(|i| format!("{i}: {}", self.refusals[i])).collect();
+        let numbers = (1..NUMBERS).filter(|&i| i < 10 || self.refusals[i] > 0);
+        let refusals: Vec<String> = numbers.map(|i| format!("{i}: {}", self.refusals[i])).collect();
         println!("  {} on the domain; {} answers, refusals {}", self.on_domain, self.answers, refusals.join(", "));
+        let [all, overflow, subnormal, zero] = self.quotients;
+        if all > 0 {
+            println!(
+                "  {all} discounted; quotients that overflow {overflow}, are subnormal {subnormal}, become 0 {zero}"
+            );
+        }
         if let Some(q) = self.longest {
-            let figures = [q.price, q.forward, q.strike, q.time].map(|x| format!("{x:?}")).join(" ");
+            let figures = [q.price, q.forward, q.strike, q.time, q.factor].map(|x| format!("{x:?}")).join(" ");
             println!("  most evaluations {}: {} {figures}", self.most, q.side);
         }
     }
 }
 
-/// Compares quotes until `count` on the requirements' domain were compared; the corners only once.
+/// Compares quotes until `count` on the requirements' domain were compared; the corners only once. With the factor 1 the entry without one has
+/// the same reply.
 fn quotes(kind: &str, count: u64, seed: u64) -> (u64, Seen) {
     let source: Box<dyn Iterator<Item = Quote>> = match KINDS.iter().position(|&name| name == kind) {
         Some(i) => {
             let mut source = Quotes::new(i, seed);
             Box::new(std::iter::from_fn(move || Some(source.next())))
         }
+        None if kind == FACTOR_CORNERS => Box::new(factor_corners()),
         None => Box::new(inputs::corners()),
     };
     let mut tally = Tally::new(format!("quotes, {kind}"));
+    let mut former = Tally::new("  of these with the factor 1, by the entry without".to_string());
     let mut seen = Seen::new();
     for q in source {
-        CURRENT.with(|current| current.set(input_of(q)));
+        set_current(&input_of(q));
         let theirs = oracle_quote(q);
-        tally.compare(&input_of(q), ours::quotes::quote(q.side, q.price, q.forward, q.strike, q.time), theirs);
+        tally.compare(&input_of(q), our_quote(q), theirs);
+        if q.factor == UNDISCOUNTED {
+            former.compare(
+                &input_of(q),
+                ours::quotes::undiscounted(q.side, q.price, q.forward, q.strike, q.time),
+                theirs,
+            );
+        }
         seen.add(q, theirs);
-        if seen.on_domain == count && kind != CORNERS {
+        if seen.on_domain == count && KINDS.contains(&kind) {
             break;
         }
     }
-    let differ = tally.end();
+    let differ = tally.end() + former.end();
     seen.show();
     (differ, seen)
 }
 
 fn every_quote(count: u64, seed: u64) -> u64 {
-    let runs = [CORNERS].into_iter().chain(KINDS).map(|kind| quotes(kind, count, seed));
+    let runs = [CORNERS, FACTOR_CORNERS].into_iter().chain(KINDS).map(|kind| quotes(kind, count, seed));
     let (differ, seen) = runs.reduce(|(d, all), (e, seen)| (d + e, all.join(seen))).unwrap();
     println!("quotes in all: {differ} differ");
     seen.show();
@@ -283,7 +325,7 @@ fn every_quote(count: u64, seed: u64) -> u64 {
 /// Scaled and exchanged pairs: refusal number, or total, and count agree.
 fn pairs(count: u64, seed: u64) -> u64 {
     let mut differ = 0;
-    for kind in [5, 6] {
+    for kind in [5, 6, 12, 13] {
         let mut source = Quotes::new(kind, seed);
         let mut tally = Tally::new(format!("pairs, {}", KINDS[kind]));
         for _ in 0..count {
@@ -292,8 +334,8 @@ fn pairs(count: u64, seed: u64) -> u64 {
                 Reply::Answer { total, count, .. } => Reply::Answer { total, volatility: 0, count },
                 refusal => refusal,
             };
-            let answer = |q: Quote| ours::quotes::quote(q.side, q.price, q.forward, q.strike, q.time);
-            tally.compare(&[input_of(q), input_of(other)].concat(), untimed(answer(q)), untimed(answer(other)));
+            let replies = [q, other].map(|q| untimed(our_quote(q)));
+            tally.compare(&[input_of(q), input_of(other)].concat(), replies[0], replies[1]);
         }
         differ += tally.end();
     }
@@ -329,7 +371,8 @@ fn standins(count: u64, seed: u64) {
 fn usage() -> ! {
     eprintln!(
         "usage: harness FUNCTION COUNT SEED        a function of vectors (1 to 21), a search (22, 23), or `all`
-       harness quotes KIND COUNT SEED     COUNT on the requirements' domain; KIND: {CORNERS}, {} or all
+       harness quotes KIND COUNT SEED     COUNT on the requirements' domain; KIND: {CORNERS}, {FACTOR_CORNERS}, {} or all
+       harness sheet                      our text of the sheet on standard input
        harness pairs COUNT SEED           scaled and exchanged pairs against each other
        harness prices KIND COUNT SEED     COUNT records that get a price; KIND: {CORNERS}, {} or all
        harness law COUNT SEED             prices of COUNT pairs within the hypotheses of the law of 4^n against each other
@@ -356,8 +399,12 @@ fn main() {
     let words: Vec<&str> = args.iter().map(String::as_str).collect();
     let differ = match words[..] {
         ["quotes", "all", _, _] => every_quote(number(&args[2]), number(&args[3])),
-        ["quotes", kind, _, _] if kind == CORNERS || KINDS.contains(&kind) => {
+        ["quotes", kind, _, _] if [CORNERS, FACTOR_CORNERS].contains(&kind) || KINDS.contains(&kind) => {
             quotes(kind, number(&args[2]), number(&args[3])).0
+        }
+        ["sheet"] => {
+            ours::sheets::print();
+            0
         }
         ["pairs", _, _] => pairs(number(&args[1]), number(&args[2])),
         ["prices", kind, _, _] if ["all", CORNERS].contains(&kind) || PRICE_KINDS.contains(&kind) => {

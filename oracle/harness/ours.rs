@@ -87,6 +87,25 @@ pub mod quotes {
     include!("quotes.rs");
 }
 
+pub mod sheets {
+    use ours::xdr_sheet::printing::{Progress, fill, start};
+    use std::io::{self, Read, Write};
+
+    /// The bytes of the program's buffer.
+    const BUFFER: usize = 4096;
+
+    /// As the program `sheet` prints.
+    pub fn print() {
+        let (mut sheet, mut out, mut progress) = (Vec::new(), [0; BUFFER], start());
+        io::stdin().lock().read_to_end(&mut sheet).expect("standard input can be read");
+        while let Progress::Tallied(_) = progress {
+            let filled = fill(&sheet, progress, &mut out);
+            io::stdout().write_all(&out[..filled.count]).expect("standard output can be written");
+            progress = filled.next;
+        }
+    }
+}
+
 pub mod ladders {
     use oracle::ladder::{Lent, Reply};
     use oracle::ladder_inputs::Ladder;

@@ -1,7 +1,7 @@
 //! Prices of volatilities: our code beside the oracle, the law of 4^n, and pairs outside its hypotheses that break it.
 
 use crate::ours::quotes;
-use crate::{CORNERS, CURRENT, Reply, Tally, bits};
+use crate::{CORNERS, Reply, Tally, bits, set_current};
 use oracle::inputs::{power, times_power};
 use oracle::lets_be_rational::bs_option_price::{is_region1, is_region2, negative_abs_log_moneyness};
 use oracle::price::{Outcome, of_source, price, time_value};
@@ -113,7 +113,7 @@ fn kind_of_prices(kind: &str, count: u64, seed: u64) -> (u64, Seen) {
     let mut tally = Tally::new(format!("prices, {kind}"));
     let mut seen = Seen::default();
     for k in source {
-        CURRENT.with(|current| current.set(input_of(k)));
+        set_current(&input_of(k));
         let reply = theirs(k);
         tally.compare(&input_of(k), ours(k), reply);
         seen.add(k, reply);
@@ -158,7 +158,7 @@ pub fn law(count: u64, seed: u64) -> u64 {
     while tally.run < count {
         let (k, other) = (source.next(), source.next());
         drawn += 1;
-        CURRENT.with(|current| current.set(input_of(k)));
+        set_current(&input_of(k));
         let ((price, value), (other_price, other_value)) = (valued(k), valued(other));
         let fit = |x: f64, y: f64| {
             let above = |x: f64| x > f64::MIN_POSITIVE && x.is_finite();

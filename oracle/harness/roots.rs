@@ -39,7 +39,7 @@ fn turned(rng: &mut Rng, mut ladder: Ladder) -> Ladder {
 /// The roots of a place: of those that the quote by itself takes all but √forward, the first, and √time, the last; none where it takes √time
 /// alone. Nothing where it takes others than the words say.
 fn of_place(q: Quote) -> Option<Vec<u64>> {
-    let (_, log) = logged(|| quotes::quote(q.side, q.price, q.forward, q.strike, q.time));
+    let (_, log) = logged(|| quotes::undiscounted(q.side, q.price, q.forward, q.strike, q.time));
     let [forward, strike, time] = [q.forward, q.strike, q.time].map(f64::to_bits);
     match (takes_root(q.side, q.price, q.forward, q.strike, q.time), &log[..]) {
         (true, &[first, second, .., last]) if [first, second, last] == [forward, strike, time] => {

@@ -2,7 +2,7 @@
 //! writes to a window of any bytes.
 
 use crate::ours::windows as ours;
-use crate::{CURRENT, Tally};
+use crate::{Tally, set_current};
 use oracle::inputs::Rng;
 use oracle::window::{UNWRITABLE, Window};
 use oracle::window_inputs::{AnyWindows, List, MOST, WINDOW_KINDS, Windows, WordWrite};
@@ -22,7 +22,7 @@ fn fields(before: &Window, WordWrite { offset, word }: WordWrite) -> String {
 
 fn announce(before: &Window, WordWrite { offset, word }: WordWrite) {
     let Window { price, forward, strike, time, .. } = *before;
-    CURRENT.with(|current| current.set([(offset as u64) << 32 | word as u64, price, forward, strike, time]));
+    set_current(&[(offset as u64) << 32 | word as u64, price, forward, strike, time]);
 }
 
 /// What the oracle did over a run.

@@ -1,5 +1,5 @@
--- A number times or over a value that is finite and above zero is no NaN; a value over 1 is itself; and 2 / √x, which is finite and at least 2 ^ -1022 for every x
--- that is finite and above zero. Assumes nothing.
+-- A number times or over a value that is finite and above zero is no NaN; a value over 1 is itself; and 2 / √x, which is finite and at least 2 ^ -1022
+-- for every x that is finite and above zero. Assumes nothing.
 use mathlib.Core.Path.{_≡_, refl, sym, ap, _∙_, subst}
 use Prim.Native.Nat.{ℕ, zero, suc, _*_, _^_, _≤_, _<_}
 use native.Mathlib.Nat.{le-trans, le-of-eq, le-of-lt, le-of-suc-le-suc, one-mul, mul-one, mul-assoc, mul-comm, mul-right-comm, mul-pos, mul-le-mul}

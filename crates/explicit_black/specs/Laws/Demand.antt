@@ -103,10 +103,11 @@ above-plusZero x o =
 abbrev afterTests : Bool → Float → Float → Float → Float → Counted Outcome
 afterTests call p f k t = fromPrice p (cond call (f ⊖ k) (k ⊖ f)) (cond call f k) (sqrt f ⊗ sqrt k) (negativeAbsLogMoneyness f k) t
 
-from-quote-is : (side : ℕ) (p f k t : Float) (z : Bool) → T (finite p) → BoundedRatio f k → TimeTested t z
-    → fromQuote side p f k t ≡ cond (eqb side 0 || eqb side 1) (afterTests (eqb side 0) p f k t) (atOnce (refused 1))
-unfolding fromQuote firstRefusal
-from-quote-is side p f k t z P h w =
+-- only test 1 can refuse
+pub first-refusal-is : (side : ℕ) (p f k t : Float) (z : Bool) → T (finite p) → BoundedRatio f k → TimeTested t z
+    → firstRefusal side p f k t ≡ cond (eqb side 0 || eqb side 1) 0 1
+unfolding firstRefusal
+first-refusal-is side p f k t z P h w =
     rw (
       is-true (finite p) P,
       is-true (finite f) (h .forward .bounded),
@@ -116,9 +117,18 @@ from-quote-is side p f k t z P h w =
       above-plusZero k (h .strike),
       w .no-less,
     )
-    (go (eqb side 0 || eqb side 1) (afterTests (eqb side 0) p f k t))
+    (go (eqb side 0 || eqb side 1))
   where
-    go : (b : Bool) (c : Counted Outcome) → cond (eqb (cond (not b) 1 0) 0) c (atOnce (refused (cond (not b) 1 0))) ≡ cond b c (atOnce (refused 1))
+    go : (b : Bool) → _≡_ {A = ℕ} (cond (not b) 1 0) (cond b 0 1)
+    go true = refl
+    go false = refl
+
+from-quote-is : (side : ℕ) (p f k t : Float) (z : Bool) → T (finite p) → BoundedRatio f k → TimeTested t z
+    → fromQuote side p f k t ≡ cond (eqb side 0 || eqb side 1) (afterTests (eqb side 0) p f k t) (atOnce (refused 1))
+unfolding fromQuote
+from-quote-is side p f k t z P h w = rw (first-refusal-is side p f k t z P h w) (go (eqb side 0 || eqb side 1) (afterTests (eqb side 0) p f k t))
+  where
+    go : (b : Bool) (c : Counted Outcome) → cond (eqb (cond b 0 1) 0) c (atOnce (refused (cond b 0 1))) ≡ cond b c (atOnce (refused 1))
     go true c = refl
     go false c = refl
 

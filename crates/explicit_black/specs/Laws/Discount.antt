@@ -92,8 +92,8 @@ pub record DiscountedDomain (side : ℕ) (price forward strike time factor : Flo
   pub factor-finite : isFinite factor ≡ true
   pub factor-above : lt plusZero factor ≡ true
 
--- test 15
-abbrev test15 : Float → ℕ
+-- test 15: its number, or 0
+abbrev pub test15 : Float → ℕ
 test15 d = cond (lt plusZero d) 0 15
 
 module _ (side : ℕ) (p f k t d : Float) where
@@ -108,7 +108,8 @@ module _ (side : ℕ) (p f k t d : Float) where
       go false b n = refl
 
   -- a finite one: tests 1 to 4 are those without it, and test 15 follows
-  pub factor-tested-last : isFinite d ≡ true → discountedRefusal side p f k t d ≡ cond (eqb (firstRefusal side p f k t) 0) (test15 d) (firstRefusal side p f k t)
+  pub factor-tested-last : isFinite d ≡ true
+      → discountedRefusal side p f k t d ≡ cond (eqb (firstRefusal side p f k t) 0) (test15 d) (firstRefusal side p f k t)
   unfolding discountedRefusal firstRefusal
   factor-tested-last e =
       rw e
@@ -266,8 +267,10 @@ module _ (side : ℕ) (p f k t d : Float) where
     refused-as : (s : Bool) → fromFigures side (inf s) f k t ≡ atOnce (refused (cond (eq t plusZero) 5 (cond s 7 6)))
     refused-as s =
         from-price-is (inf s) intrinsic bound roots (negativeAbsLogMoneyness f k) t
-        ∙ rw (infinite-not-equal s (max intrinsic plusZero) (max-finite intrinsic plusZero intrinsic-bounded zero-finite), infinite-not-equal s bound bound-bounded)
-        (go s (eq t plusZero))
+        ∙ rw (
+          infinite-not-equal s (max intrinsic plusZero) (max-finite intrinsic plusZero intrinsic-bounded zero-finite),
+          infinite-not-equal s bound bound-bounded,
+        ) (go s (eq t plusZero))
       where
         past : Bool → Counted Outcome
         past s = fromTimeValue (negativeAbsLogMoneyness f k) (normalisedTimeValue (inf s) intrinsic roots)

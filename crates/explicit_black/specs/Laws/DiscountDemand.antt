@@ -4,9 +4,9 @@
 use mathlib.Core.Path.{_≡_, refl, sym, ap, _∙_, subst}
 use mathlib.Core.Logic.{_⊎_, inl, inr}
 use Prim.Native.Nat.{ℕ, zero, suc, _+_, _*_}
-use native.Mathlib.Nat.{zero-mul, mul-one, mul-pos}
+use native.Mathlib.Nat.{zero-mul, mul-pos}
 use native.Mathlib.Omega.{arith}
-use mathlib.Core.Bool.{Bool, true, false, not, cond, _||_}
+use mathlib.Core.Bool.{Bool, true, false, cond, _||_}
 use lib.IntN.{ℤ, pos, negsuc}
 use lib.Dec.{T, eqb, eqb·suc-zero, ltb, ltb→lt, lit≤}
 use borrow.Author.Tests.{eq-eqb}
@@ -17,7 +17,7 @@ use lib.Ieee.Scale.{finite}
 use lib.Ieee.Positive.{num, den, den-pos, positive}
 use Rattle.arithmetic.specs.Operations.{_⊘_, bits, plusZero, two, minPositive}
 use Rattle.arithmetic.specs.Basic.{isSignMinus, max, isFinite}
-use Rattle.arithmetic.specs.Laws.Times.{Times, num-positive}
+use Rattle.arithmetic.specs.Laws.Times.{num-positive}
 use Rattle.arithmetic.specs.Laws.Compare.{lt-is, not-le, above-zero}
 use Rattle.arithmetic.specs.Laws.Products.{div-is}
 use Rattle.arithmetic.specs.Laws.Quotients.{over-positive}
@@ -25,18 +25,19 @@ use Rattle.arithmetic.specs.Laws.Sizes.{round-minus}
 use Rattle.arithmetic.specs.Laws.ScaledProducts.{quotient-times}
 use Rattle.arithmetic.specs.Laws.Zeros.{zeroOf, equal-same}
 use Rattle.bs_option_price.specs.Laws.Moneyness.{BoundedRatio}
-use Rattle.explicit_black.specs.Counted.{Counted, atOnce}
-use Rattle.explicit_black.specs.Quote.{Outcome, refused, answer, refusal, volatilityOver, reply, fromPrice, fromFigures, fromQuote}
+use Rattle.explicit_black.specs.Counted.{atOnce}
+use Rattle.explicit_black.specs.Quote.{refused, answer, refusal, volatilityOver, reply, firstRefusal, fromPrice, fromFigures, fromQuote}
 use Rattle.explicit_black.specs.Price.{BothAboveOrZero}
 use Rattle.explicit_black.specs.Demand.{fourUp, fourDown, Exactly, ComparablePair, ComparableFigures, ComparableTimes}
 use Rattle.explicit_black.specs.Discount.{discountedRefusal, fromDiscountedQuote, impliedBlackVolatilityDiscounted, discountedAtBits, Agree}
 use Rattle.explicit_black.specs.Laws.ZeroPrice.{IsZero, round-is-zero, zero-not-below, minusZero}
 use Rattle.explicit_black.specs.Laws.Powers.{comparable-pair, comparable, four-times}
 use Rattle.explicit_black.specs.Laws.Price.{times-up, times-down, flipped}
-use Rattle.explicit_black.specs.Laws.Demand.{TimeTested, times-tested, above-plusZero, Related, related-times, vanish, upward, downward}
+use Rattle.explicit_black.specs.Laws.Demand.{times-tested, first-refusal-is, Related, related-times, vanish, upward, downward}
 use Rattle.explicit_black.specs.Laws.Demand.{ComparableValues, clear-or-zero, zero-after-tests, same-outcome, other-outcome, comparable-ratio}
 use Rattle.explicit_black.specs.Laws.Demand.{callForward, callStrike, putForward, putStrike, timeOne, comparable-call, comparable-put}
-use Rattle.explicit_black.specs.Laws.Discount.{DiscountedDomain, discounted-passed, divided-outcome, compared-discounted}
+use Rattle.explicit_black.specs.Laws.Discount.{test15, factor-not-finite, factor-tested-last, discounted-passed, divided-outcome}
+use Rattle.explicit_black.specs.Laws.Discount.{compared-discounted}
 
 -- ---- a price over a factor
 dividend-finite : (p d : Float) → T (finite (p ⊘ d)) → T (finite p)
@@ -56,7 +57,10 @@ at-least-zero v p (inl s) = go (le plusZero v) refl
     not-under a b c e t = let l = ltb→lt a b t in omega (arith, zero-mul c)
 
     below-zero : lt v plusZero ≡ true → ⊥
-    below-zero l = not-under (num v * 1) (0 * den v) (den v) refl (subst T (sym (ap (λ (b : Bool). below b (num v * 1) false (0 * den v)) (sym s) ∙ sym (lt-is v plusZero p tt) ∙ l)) tt)
+    below-zero l =
+        let b : ltb (num v * 1) (0 * den v) ≡ true =
+        ap (λ (z : Bool). below z (num v * 1) false (0 * den v)) (sym s) ∙ sym (lt-is v plusZero p tt) ∙ l in
+        not-under (num v * 1) (0 * den v) (den v) refl (subst T (sym b) tt)
 
     go : (b : Bool) → le plusZero v ≡ b → T (le plusZero v)
     go true e = subst T (sym e) tt
@@ -100,7 +104,12 @@ equal-factors p (fin s m x) (fin t n y) F F' q e = sym (equal-same (fin s m x) (
 -- ---- raw prices that are exactly 4 ^ n times each other, over a factor above 0: so are the quotients, where both are above 2 ^ -1022 or both are 0
 module _ (p p' d : Float) (D : T (positive d)) where
   zeros-exactly : (n : ℤ) → T (finite (p ⊘ d)) → T (finite (p' ⊘ d)) → num (p ⊘ d) ≡ 0 → num (p' ⊘ d) ≡ 0 → Exactly n (p ⊘ d) (p' ⊘ d)
-  zeros-exactly n q q' z z' = record { finite-x = q; finite-y = q'; fraction = rw (z, z') (zeros (den (p ⊘ d)) (den (p' ⊘ d)) (fourDown n) (fourUp n)); signs = inl z }
+  zeros-exactly n q q' z z' = record {
+    finite-x = q;
+    finite-y = q';
+    fraction = rw (z, z') (zeros (den (p ⊘ d)) (den (p' ⊘ d)) (fourDown n) (fourUp n));
+    signs = inl z;
+  }
     where
       zeros : (a b c e : ℕ) → 0 * a * c ≡ 0 * b * e
       zeros a b c e = rw (zero-mul a, zero-mul b, zero-mul c, zero-mul e)
@@ -136,24 +145,6 @@ divided-exactly n p p' d D e h = go n e
     go (pos n) e = up n (upward n p p' e)
     go (negsuc n) e = down n (downward n p p' e)
 
--- ---- the first refusal of quotes within the limits of demand 3: by the side and the factor alone
-abbrev numberBy : Bool → Float → ℕ
-numberBy side d = cond (not side) 1 (cond (not (isFinite d)) 2 (cond (not (lt plusZero d)) 15 0))
-
-number-by : (side : ℕ) (p f k t d : Float) (z : Bool) → T (finite p) → BoundedRatio f k → TimeTested t z
-    → discountedRefusal side p f k t d ≡ numberBy (eqb side 0 || eqb side 1) d
-unfolding discountedRefusal
-number-by side p f k t d z P h w =
-    rw (
-      is-true (finite p) P,
-      is-true (finite f) (h .forward .bounded),
-      is-true (finite k) (h .strike .bounded),
-      w .finite-time,
-      above-plusZero f (h .forward),
-      above-plusZero k (h .strike),
-      w .no-less,
-    )
-
 -- ---- two quotes with one factor whose first refusals are one: they agree where the quotes of the divided prices do
 agree : (side side' : ℕ) (p f k t p' f' k' t' d : Float) → T (finite (p ⊘ d)) → T (finite (p' ⊘ d))
     → discountedRefusal side' p' f' k' t' d ≡ discountedRefusal side p f k t d
@@ -174,13 +165,25 @@ agree side side' p f k t p' f' k' t' d q q' e same = go (discountedRefusal side 
 module _ (n : ℤ) (p f k t p' f' k' t' d : Float) (h : BoundedRatio f k) (h' : BoundedRatio f' k') (w : ComparableTimes t t')
     (q : T (finite (p ⊘ d))) (q' : T (finite (p' ⊘ d)))
     (s : T (positive d) → T (le plusZero (p ⊘ d)) × T (le plusZero (p' ⊘ d)) × Exactly n (p ⊘ d) (p' ⊘ d)) where
+  -- the first refusals are one, by side and factor alone
   numbers : (side side' : ℕ) → (eqb side' 0 || eqb side' 1) ≡ (eqb side 0 || eqb side 1)
       → discountedRefusal side' p' f' k' t' d ≡ discountedRefusal side p f k t d
-  numbers side side' e =
-      let (z, u, v) = times-tested t t' w in
-      number-by side' p' f' k' t' d z (dividend-finite p' d q') h' v
-      ∙ ap (λ (b : Bool). numberBy b d) e
-      ∙ sym (number-by side p f k t d z (dividend-finite p d q) h u)
+  numbers side side' e = go (isFinite d) refl
+    where
+      first : firstRefusal side' p' f' k' t' ≡ firstRefusal side p f k t
+      first =
+          let (z, u, v) = times-tested t t' w in
+          first-refusal-is side' p' f' k' t' z (dividend-finite p' d q') h' v
+          ∙ ap (λ (b : Bool). cond b 0 1) e
+          ∙ sym (first-refusal-is side p f k t z (dividend-finite p d q) h u)
+
+      go : (b : Bool) → isFinite d ≡ b → discountedRefusal side' p' f' k' t' d ≡ discountedRefusal side p f k t d
+      go true i =
+          factor-tested-last side' p' f' k' t' d i
+          ∙ ap (λ (n : ℕ). cond (eqb n 0) (test15 d) n) first
+          ∙ sym (factor-tested-last side p f k t d i)
+      go false i =
+          factor-not-finite side' p' f' k' t' d i ∙ ap (λ (b : Bool). cond b 2 1) e ∙ sym (factor-not-finite side p f k t d i)
 
   values : T (positive d) → ComparableValues (p ⊘ d) f k
   values D = record { held = div-fits binary64 p d; bounded = q; not-negative = s D .0; pair = h }
@@ -309,7 +312,8 @@ halfBits = 0x3FE0_0000_0000_0000
 abbrev twoBits : ℕ
 twoBits = 0x4000_0000_0000_0000
 
-pub discounted-call-and-put-agree : discountedAtBits 1 twoBits putForward putStrike timeOne halfBits ≡ discountedAtBits 0 halfBits callForward callStrike timeOne halfBits
+pub discounted-call-and-put-agree : discountedAtBits 1 twoBits putForward putStrike timeOne halfBits
+    ≡ discountedAtBits 0 halfBits callForward callStrike timeOne halfBits
 unfolding div lt le eq ofBits
 discounted-call-and-put-agree =
     discounted-agree (pos 1) halfBits callForward callStrike timeOne halfBits twoBits putForward putStrike timeOne halfBits (inr (tt, tt, tt, tt)) tt

@@ -101,7 +101,8 @@ class Entry:
         return value
 
     def field(self, name, text, where=""):
-        if name in self.defaults and not text.strip():
+        # In a file a place that is empty is left out; as an argument it is no number.
+        if text is None or where and name in self.defaults and not text.strip():
             return self.defaults[name]
         return self.side(text, where) if name == "side" else self.figure(name, text, where)
 
@@ -114,7 +115,7 @@ class Entry:
     def fields(self, words, where=""):
         if not self.fits(len(words)):
             self.stop(2, f"{where}a {self.record} has {self.how_many()} fields ({', '.join(self.names)}), not {len(words)}")
-        words = [*words, *[""] * (len(self.names) - len(words))]
+        words = [*words, *[None] * (len(self.names) - len(words))]
         return tuple(self.field(name, text, where) for name, text in zip(self.names, words))
 
     def records_of(self, path):

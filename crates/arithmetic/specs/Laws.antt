@@ -22,6 +22,7 @@ pub mod Sizes
 pub mod PowerBounds
 pub mod UnitInterval
 pub mod ScaledProducts
+pub mod Overflow
 -- The square root:
 pub mod WholeRoots
 pub mod SqrtValues

@@ -31,13 +31,13 @@ fromDiscountedQuote side price forward strike time factor =
 unfoldable pub impliedBlackVolatilityDiscounted : ℕ → Float → Float → Float → Float → Float → Reply
 impliedBlackVolatilityDiscounted side price forward strike time factor = reply time (fromDiscountedQuote side price forward strike time factor)
 
--- ---- What demand 3 says of two such quotes, of figures of any bits.
+-- ---- What demand 3 says of two such quotes, with figures of any bits.
 
 -- what is compared of a quote with figures of these bits
 abbrev pub discountedAtBits : ℕ → ℕ → ℕ → ℕ → ℕ → ℕ → Counted Outcome
 discountedAtBits side p f k t d = compared (impliedBlackVolatilityDiscounted side (bits p) (bits f) (bits k) (bits t) (bits d))
 
-pub record Agree (n : ℤ) (p f k t d p' f' k' t' d' : ℕ) : Type 0 where
+pub record DiscountedAgree (n : ℤ) (p f k t d p' f' k' t' d' : ℕ) : Type 0 where
   -- The second has the first's side, whatever number that is, and its forward and strike are exactly 4 ^ n times the first's.
   pub same-side : (side : ℕ) → Exactly n (bits f) (bits f') → Exactly n (bits k) (bits k')
       → discountedAtBits side p' f' k' t' d' ≡ discountedAtBits side p f k t d

@@ -2,7 +2,7 @@
 -- that overflow and that round to zero. Assumes nothing.
 use mathlib.Core.Path.{_≡_, refl}
 use lib.Ieee.{Float, nan, sub, mul, div, neg, lt, le, eq, isNan, ofBits}
-use Rattle.arithmetic.specs.Operations.{bits, plusZero, half, one, two, infinity}
+use Rattle.arithmetic.specs.Operations.{_⊗_, _⊘_, bits, plusZero, half, one, two, infinity}
 use Rattle.arithmetic.specs.Basic.{max}
 use Rattle.arithmetic.specs.Sqrt.{sqrt}
 use Rattle.explicit_black.specs.Quote.{answer, refusal, volatilityOver, fromTimeValue, fromPrice}
@@ -51,6 +51,10 @@ pub record DiscountExamples : Type 0 where
   pub at-bound : impliedBlackVolatilityDiscounted 0 fifty hundred hundredTwenty one half ≡ answer infinity infinity 0
   pub above-bound : impliedBlackVolatilityDiscounted 0 aboveFifty hundred hundredTwenty one half ≡ refusal 6 0
   pub at-bound-by-two : impliedBlackVolatilityDiscounted 0 (bits 0x4069_0000_0000_0000) hundred hundredTwenty one two ≡ answer infinity infinity 0
+  -- one rounding: 97 / 0.97 is 100; 1 / 0.97 rounded and times 97 rounded would be above it
+  pub rounded-once : impliedBlackVolatilityDiscounted 0 (bits 0x4058_4000_0000_0000) hundred hundredTwenty one (bits 0x3FEF_0A3D_70A3_D70A)
+      ≡ answer infinity infinity 0
+  pub rounded-twice : bits 0x4058_4000_0000_0000 ⊗ (one ⊘ bits 0x3FEF_0A3D_70A3_D70A) ≡ bits 0x4059_0000_0000_0001
   -- at time zero 10 / 0.5 is the intrinsic value, and 20 / 0.5 is not
   pub expired : impliedBlackVolatilityDiscounted 0 ten hundredTwenty hundred plusZero half ≡ answer plusZero plusZero 0
   pub expired-undivided : impliedBlackVolatilityDiscounted 0 twenty hundredTwenty hundred plusZero half ≡ refusal 5 0
@@ -79,6 +83,8 @@ discount-examples = record {
   at-bound = refl;
   above-bound = refl;
   at-bound-by-two = refl;
+  rounded-once = refl;
+  rounded-twice = refl;
   expired = refl;
   expired-undivided = refl;
   overflow-expired = refl;

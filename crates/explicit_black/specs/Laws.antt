@@ -4,6 +4,7 @@ pub mod Counts
 pub mod Demand
 pub mod Discount
 pub mod DiscountDemand
+pub mod DividedPrices
 pub mod Guards
 pub mod Infinite
 pub mod Kinds

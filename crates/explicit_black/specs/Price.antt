@@ -42,8 +42,12 @@ blackPrice side volatility forward strike time =
     let number = priceRefusal side volatility forward strike time in
     cond (eqb number 0) (price (priceOf side forward strike (volatility ⊗ sqrt time))) (refusal number 0)
 
--- ---- What the law of 4 ^ n asks of the two time values, and of the two prices: both are finite, and both are above 2 ^ -1022 or both are 0.
+-- ---- What laws of 4 ^ n ask of two values: both are above 2 ^ -1022, or both are 0.
+abbrev pub AboveOrZero : Float → Float → Type 0
+AboveOrZero v v' = (T (lt minPositive v) × T (lt minPositive v')) ⊎ (T (eq v plusZero) × T (eq v' plusZero))
+
+-- that, and both are finite: what the law of prices asks of the two time values, and of the two prices
 pub record BothAboveOrZero (v v' : Float) : Type 0 where
   pub first-finite : T (finite v)
   pub second-finite : T (finite v')
-  pub above-or-zero : (T (lt minPositive v) × T (lt minPositive v')) ⊎ (T (eq v plusZero) × T (eq v' plusZero))
+  pub above-or-zero : AboveOrZero v v'

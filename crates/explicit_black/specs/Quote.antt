@@ -131,7 +131,7 @@ unfolding boundTests orElse
 fromPrice price intrinsic bound roots logMoneyness time =
     orElse (boundTests price intrinsic bound time) (fromTimeValue logMoneyness (normalisedTimeValue price intrinsic roots))
 
--- what follows tests 1 to 4
+-- what follows tests 1 to 4; a price that was divided by a factor (Discount.antt) may be infinite
 abbrev pub fromFigures : ℕ → Float → Float → Float → Float → Counted Outcome
 fromFigures side price forward strike time =
     fromPrice price (intrinsicValue side forward strike) (priceBound side forward strike)

@@ -352,7 +352,7 @@ pub fn from_price(
     }
 }
 
-// Solves from figures that passed tests 1 to 4: tests 5 and 6, and those of the time value.
+// Solves from side and figures after tests 1 to 4: tests 5 and 6, and those of the time value. A price that was divided by a factor may be infinite.
 pub fn from_figures(
     side: u32,
     price: f64,

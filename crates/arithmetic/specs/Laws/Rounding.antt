@@ -56,7 +56,7 @@ whole-grid f a c k w C e h =
     exact-grid (prec f) (a * 2 ^ k * 2 ^ low f) c w k C small n'
     ∙ ap (λ (z : ℕ). z * 2 ^ k) (sym (exact-grid (prec f) (a * 2 ^ low f) c w 0 C small n ∙ mul-one w))
 
-safe-grid : (f : Format) (a c k : ℕ) → 0 < c → Safe f a c → grid f (a * 2 ^ k) c ≡ grid f a c * 2 ^ k
+pub safe-grid : (f : Format) (a c k : ℕ) → 0 < c → Safe f a c → grid f (a * 2 ^ k) c ≡ grid f a c * 2 ^ k
 safe-grid f a c k C (inl N) = grid-scale f a c k C N
 safe-grid f a c k C (inr (w, e)) = go (lt-or-le (size w) (prec f))
   where

@@ -57,7 +57,7 @@ module _ (s : Bool) (a c : ℕ) (C : 0 < c) (p : T (finite (round binary64 s a c
       let b : AtMost s minPositive rounded = round-at-most binary64 s a c minPositive C least-fits tt g in
       not-less (isSignMinus rounded) (1 * den rounded) (num rounded * 2 ^ 1022) (b .bound) (subst T (lt-is minPositive rounded tt p) h)
 
-  above-normal : Normal binary64 a c
+  pub above-normal : Normal binary64 a c
   above-normal = go (lt-or-le (a * 2 ^ 1022) c)
     where
       go : (a * 2 ^ 1022 < c) ⊎ (c ≤ a * 2 ^ 1022) → Normal binary64 a c
@@ -102,6 +102,13 @@ scalable-times s k a c a' c' v v' i i' C C' e h =
     let (p, p', l) = subst (Scalable (round binary64 s a c)) i' (subst (λ (z : Float). Scalable z v') i h) in
     rw (i, i') (rounded-times s k a c a' c' C C' e p p' l)
 
+-- quotients by one number, as fractions
+pub over-ratio : (nx dx nx' dx' ny dy r : ℕ) → nx' * dx ≡ nx * r * dx' → nx' * dy * (ny * dx) ≡ nx * dy * (r * (ny * dx'))
+over-ratio nx dx nx' dx' ny dy r e =
+    (let i : nx' * dy * (ny * dx) ≡ nx' * dx * (ny * dy) = simp (mul-assoc, mul-comm, mul-left-comm) in i)
+    ∙ ap (λ (z : ℕ). z * (ny * dy)) e
+    ∙ (let i : nx * r * dx' * (ny * dy) ≡ nx * dy * (r * (ny * dx')) = simp (mul-assoc, mul-comm, mul-left-comm) in i)
+
 module _ (k : ℕ) (x x' y : Float) (h : Times k x x') where
   -- ---- the product
   pub product-times : T (finite (x ⊗ y)) → T (finite (x' ⊗ y)) → T (lt minPositive (x ⊗ y)) ⊎ (T (eq (x ⊗ y) plusZero) × T (eq (x' ⊗ y) plusZero))
@@ -121,9 +128,3 @@ module _ (k : ℕ) (x x' y : Float) (h : Times k x x') where
       scalable-times _ k _ _ _ _ (x ⊘ y) (x' ⊘ y) (over-positive x y (h .finite-l) P) (over-positive x' y (h .finite-r) P ∙ rw (h .sign))
       (mul-pos some (den-pos x)) (mul-pos some (den-pos x'))
       (over-ratio (num x) (den x) (num x') (den x') (num y) (den y) (2 ^ k) (h .value)) (p, p', l)
-    where
-      over-ratio : (nx dx nx' dx' ny dy r : ℕ) → nx' * dx ≡ nx * r * dx' → nx' * dy * (ny * dx) ≡ nx * dy * (r * (ny * dx'))
-      over-ratio nx dx nx' dx' ny dy r e =
-          (let i : nx' * dy * (ny * dx) ≡ nx' * dx * (ny * dy) = simp (mul-assoc, mul-comm, mul-left-comm) in i)
-          ∙ ap (λ (z : ℕ). z * (ny * dy)) e
-          ∙ (let i : nx * r * dx' * (ny * dy) ≡ nx * dy * (r * (ny * dx')) = simp (mul-assoc, mul-comm, mul-left-comm) in i)

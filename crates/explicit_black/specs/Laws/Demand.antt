@@ -100,7 +100,7 @@ above-plusZero x o =
     ∙ is-true (ltb a b) (lt→ltb a b above)
 
 -- what follows test 4; `call` tells a call from a put
-abbrev afterTests : Bool → Float → Float → Float → Float → Counted Outcome
+abbrev pub afterTests : Bool → Float → Float → Float → Float → Counted Outcome
 afterTests call p f k t = fromPrice p (cond call (f ⊖ k) (k ⊖ f)) (cond call f k) (sqrt f ⊗ sqrt k) (negativeAbsLogMoneyness f k) t
 
 -- only test 1 can refuse
@@ -133,10 +133,10 @@ from-quote-is side p f k t z P h w = rw (first-refusal-is side p f k t z P h w) 
     go false c = refl
 
 -- ---- a call of forward f and strike k is a put of forward k and strike f
-swapped : (f k : Float) → BoundedRatio f k → BoundedRatio k f
+pub swapped : (f k : Float) → BoundedRatio f k → BoundedRatio k f
 swapped f k h = record { forward = h .strike; strike = h .forward; not-over = h .not-under; not-under = h .not-over }
 
-exchanged : (call : Bool) (p f k t : Float) → BoundedRatio f k → afterTests (not call) p f k t ≡ afterTests call p k f t
+pub exchanged : (call : Bool) (p f k t : Float) → BoundedRatio f k → afterTests (not call) p f k t ≡ afterTests call p k f t
 exchanged call p f k t h = go call
   where
     roots : sqrt f ⊗ sqrt k ≡ sqrt k ⊗ sqrt f
@@ -162,7 +162,7 @@ vanishes : (n m d c : ℕ) → 0 < c → n ≡ 0 → m * c ≡ n * d → m ≡ 0
 vanishes n m d c C z e = eq-of-mul-eq-mul-right c C m 0 (e ∙ ap (λ (u : ℕ). u * d) z ∙ zero-mul d ∙ sym (zero-mul c))
 
 -- what is 2 ^ k times a zero is a zero
-zero-times : (k : ℕ) (x y : Float) → num y * den x ≡ num x * 2 ^ k * den y → num x ≡ 0 → num y ≡ 0
+pub zero-times : (k : ℕ) (x y : Float) → num y * den x ≡ num x * 2 ^ k * den y → num x ≡ 0 → num y ≡ 0
 zero-times k x y v z = vanishes (num x) (num y) (2 ^ k * den y) (den x) (den-pos x) z (v ∙ mul-assoc (num x) (2 ^ k) (den y))
 
 pub upward : (n : ℕ) (x y : Float) → Exactly (pos n) x y → Related (n + n) x y
@@ -188,7 +188,7 @@ downward n x y h = go (h .signs)
     go (inl z) = vanish (vanishes (num x) (num y) (den y) (den x * 4 ^ suc n) (mul-pos (den-pos x) (four-pos (suc n))) z u) z
     go (inr s) = related-times (record { finite-l = h .finite-y; finite-r = h .finite-x; sign = sym s; value = v })
 
-normal-times : (k : ℕ) (x y : Float) → PositiveNormal x → Related k x y → Times k x y
+pub normal-times : (k : ℕ) (x y : Float) → PositiveNormal x → Related k x y → Times k x y
 normal-times k x y o (related-times h) = h
 normal-times k x y o (vanish e g) = absurd (lt-irrefl 0 (subst (λ (z : ℕ). 0 < z) e (num-above x o)))
 
@@ -272,46 +272,43 @@ module _ (n : ℕ) (f k t f' k' t' : Float) (z : Bool) (h : BoundedRatio f k) (h
         | inr e ↦ both-zero e (zero-times (n + n) p p' (g .value) e)
       ]
 
--- ---- demand 3 for values of binary64
+-- ---- demand 3 for values of binary64: what follows test 4, then the quotes
 scaled-up : (n : ℕ) (p f k t p' f' k' t' : Float) → ComparableValues p f k → ComparableValues p' f' k' → (z : Bool) → TimeTested t z → TimeTested t' z
-    → Related (n + n) p p' → Related (n + n) f f' → Related (n + n) k k' → (side : ℕ) → fromQuote side p' f' k' t' ≡ fromQuote side p f k t
-scaled-up n p f k t p' f' k' t' o o' z w w' hp hf hk side =
+    → Related (n + n) p p' → Related (n + n) f f' → Related (n + n) k k' → (call : Bool) → afterTests call p' f' k' t' ≡ afterTests call p f k t
+scaled-up n p f k t p' f' k' t' o o' z w w' hp hf hk call =
     let tf = normal-times (n + n) f f' (o .pair .forward) hf in
     let tk = normal-times (n + n) k k' (o .pair .strike) hk in
-    from-quote-is side p' f' k' t' z (o' .bounded) (o' .pair) w'
-    ∙ ap (λ (c : Counted Outcome). cond (eqb side 0 || eqb side 1) c (atOnce (refused 1)))
-    (any-price n f k t f' k' t' z (o .pair) (o' .pair) w w' tf tk (eqb side 0) p p' o o' hp)
-    ∙ sym (from-quote-is side p f k t z (o .bounded) (o .pair) w)
+    any-price n f k t f' k' t' z (o .pair) (o' .pair) w w' tf tk call p p' o o' hp
 
 module _ (p f k t p' f' k' t' : Float) (o : ComparableValues p f k) (o' : ComparableValues p' f' k') (w : ComparableTimes t t') where
+  pub same-figures : (n : ℤ) (call : Bool) → Exactly n p p' → Exactly n f f' → Exactly n k k' → afterTests call p' f' k' t' ≡ afterTests call p f k t
+  same-figures (pos n) call hp hf hk =
+      let (z, u, v) = times-tested t t' w in
+      scaled-up n p f k t p' f' k' t' o o' z u v (upward n p p' hp) (upward n f f' hf) (upward n k k' hk) call
+  same-figures (negsuc n) call hp hf hk =
+      let (z, u, v) = times-tested t t' w in
+      sym (scaled-up (suc n) p' f' k' t' p f k t o' o z v u (downward n p p' hp) (downward n f f' hf) (downward n k k' hk) call)
+
   pub same-outcome : (n : ℤ) (side : ℕ) → Exactly n p p' → Exactly n f f' → Exactly n k k' → fromQuote side p' f' k' t' ≡ fromQuote side p f k t
-  same-outcome (pos n) side hp hf hk =
+  same-outcome n side hp hf hk =
       let (z, u, v) = times-tested t t' w in
-      scaled-up n p f k t p' f' k' t' o o' z u v (upward n p p' hp) (upward n f f' hf) (upward n k k' hk) side
-  same-outcome (negsuc n) side hp hf hk =
-      let (z, u, v) = times-tested t t' w in
-      sym (scaled-up (suc n) p' f' k' t' p f k t o' o z v u (downward n p p' hp) (downward n f f' hf) (downward n k k' hk) side)
-
--- a put, and a call, as the other with forward and strike exchanged
-other-quote : (p f k t : Float) (z : Bool) → ComparableValues p f k → TimeTested t z
-    → (fromQuote 1 p f k t ≡ fromQuote 0 p k f t) × (fromQuote 0 p f k t ≡ fromQuote 1 p k f t)
-other-quote p f k t z o w =
-    let h = o .pair in
-    let g = swapped f k h in (
-      from-quote-is 1 p f k t z (o .bounded) h w ∙ exchanged true p f k t h ∙ sym (from-quote-is 0 p k f t z (o .bounded) g w),
-      from-quote-is 0 p f k t z (o .bounded) h w ∙ exchanged false p f k t h ∙ sym (from-quote-is 1 p k f t z (o .bounded) g w),
-    )
+      from-quote-is side p' f' k' t' z (o' .bounded) (o' .pair) v
+      ∙ ap (λ (c : Counted Outcome). cond (eqb side 0 || eqb side 1) c (atOnce (refused 1))) (same-figures n (eqb side 0) hp hf hk)
+      ∙ sym (from-quote-is side p f k t z (o .bounded) (o .pair) u)
 
 module _ (p f k t p' f' k' t' : Float) (o : ComparableValues p f k) (o' : ComparableValues p' f' k') (w : ComparableTimes t t') where
+  other-figures : (n : ℤ) (call : Bool) → Exactly n p p' → Exactly n k f' → Exactly n f k' → afterTests (not call) p' f' k' t' ≡ afterTests call p f k t
+  other-figures n call hp hk hf =
+      let pair = swapped f' k' (o' .pair) in
+      let o'' : ComparableValues p' k' f' = record { held = o' .held; bounded = o' .bounded; not-negative = o' .not-negative; pair = pair } in
+      exchanged call p' f' k' t' (o' .pair) ∙ same-figures p f k t p' k' f' t' o o'' w n call hp hf hk
+
   pub other-outcome : (n : ℤ) → Exactly n p p' → Exactly n k f' → Exactly n f k'
       → (fromQuote 1 p' f' k' t' ≡ fromQuote 0 p f k t) × (fromQuote 0 p' f' k' t' ≡ fromQuote 1 p f k t)
   other-outcome n hp hk hf =
-      let (z, u, v) = times-tested t t' w in
-      let other = other-quote p' f' k' t' z o' v in
-      let pair = swapped f' k' (o' .pair) in
-      let o'' : ComparableValues p' k' f' = record { held = o' .held; bounded = o' .bounded; not-negative = o' .not-negative; pair = pair } in (
-        other .0 ∙ same-outcome p f k t p' k' f' t' o o'' w n 0 hp hf hk,
-        other .1 ∙ same-outcome p f k t p' k' f' t' o o'' w n 1 hp hf hk,
+      let (z, u, v) = times-tested t t' w in (
+        from-quote-is 1 p' f' k' t' z (o' .bounded) (o' .pair) v ∙ other-figures n true hp hk hf ∙ sym (from-quote-is 0 p f k t z (o .bounded) (o .pair) u),
+        from-quote-is 0 p' f' k' t' z (o' .bounded) (o' .pair) v ∙ other-figures n false hp hk hf ∙ sym (from-quote-is 1 p f k t z (o .bounded) (o .pair) u),
       )
 
 -- ---- DEMAND 3, for figures of any bits

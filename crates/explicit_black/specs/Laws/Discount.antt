@@ -7,9 +7,10 @@ use native.Mathlib.Omega.{arith}
 use mathlib.Core.Bool.{Bool, true, false, not, cond, _&&_, _||_, true≢false}
 use lib.Dec.{T, eqb, eqb·suc-zero, lit≤}
 use lib.Ieee.{Float, nan, inf, fin, binary64, fits, sub, div, lt, le, eq, isNan, ofBits}
+use lib.Ieee.Bits.{ofBits-fits}
 use lib.Ieee.Scale.{finite}
 use lib.Ieee.Positive.{positive, positive-finite}
-use Rattle.arithmetic.specs.Operations.{_⊖_, _⊗_, _⊘_, plusZero, one}
+use Rattle.arithmetic.specs.Operations.{_⊖_, _⊗_, _⊘_, bits, plusZero, one}
 use Rattle.arithmetic.specs.Basic.{abs, max, takesFirst, isFinite}
 use Rattle.arithmetic.specs.Sqrt.{sqrt}
 use Rattle.arithmetic.specs.Laws.Choices.{in-both, never}
@@ -20,7 +21,7 @@ use Rattle.arithmetic.specs.Laws.SqrtBounds.{roots-positive}
 use Rattle.bs_option_price.specs.BsOptionPrice.{negativeAbsLogMoneyness}
 use Rattle.bs_option_price.specs.Laws.MoneynessBounds.{PositiveValue}
 use Rattle.explicit_black.specs.Counted.{Counted, atOnce}
-use Rattle.explicit_black.specs.Quote.{Outcome, refused, answer, refusal, reply, firstRefusal, intrinsicValue, priceBound, normalisedTimeValue}
+use Rattle.explicit_black.specs.Quote.{Outcome, refused, answer, refusal, reply, firstRefusal, normalisedTimeValue}
 use Rattle.explicit_black.specs.Quote.{fromTimeValue, fromFigures, fromQuote, impliedBlackVolatilityInput}
 use Rattle.explicit_black.specs.Discount.{discountedRefusal, fromDiscountedQuote, impliedBlackVolatilityDiscounted}
 use Rattle.explicit_black.specs.Demand.{compared}
@@ -29,7 +30,8 @@ use Rattle.explicit_black.specs.Laws.Quote.{Domain, firstOf, passed, dom
 use Rattle.explicit_black.specs.Laws.Quote.{OneToNine, FactsOf, kind-facts, refused-facts, kind-count, FiguresAreNumbers, kind-numbers, compared-reply}
 use Rattle.explicit_black.specs.Laws.Quote.{kind-refused, NoSearch, money-figures}
 use Rattle.explicit_black.specs.Laws.Kinds.{Kind}
-use Rattle.explicit_black.specs.Laws.PriceNumbers.{above-positive, intrinsic-finite}
+use Rattle.explicit_black.specs.Laws.PriceNumbers.{above-positive, difference-finite}
+use Rattle.explicit_black.specs.Laws.Demand.{afterTests}
 
 -- ---- infinities as prices
 infinite-not-equal : (s : Bool) (y : Float) → T (finite y) → eq (inf s) y ≡ false
@@ -64,7 +66,7 @@ over-root true (fin false m e) p = refl
 over-root false (fin false m e) p = refl
 over-root s (fin true m e) p = absurd p
 
-zero-finite : T (finite plusZero)
+pub zero-finite : T (finite plusZero)
 unfolding ofBits
 zero-finite = tt
 
@@ -79,6 +81,43 @@ infinite-time-value x i r p q = ap (fromTimeValue x) value ∙ below
 
     below : fromTimeValue x (inf true) ≡ atOnce (refused 7)
     below = unfold fromTimeValue le lt ofBits in refl
+
+-- what follows the tests where the price is infinite: 5 at time zero; else 6 where it is positive, and 7 where it is negative
+module _ (call : Bool) (f k t : Float) (forward : PositiveValue f) (strike : PositiveValue k) where
+  abbrev intrinsic : Float
+  intrinsic = cond call (f ⊖ k) (k ⊖ f)
+
+  abbrev bound : Float
+  bound = cond call f k
+
+  abbrev roots : Float
+  roots = sqrt f ⊗ sqrt k
+
+  intrinsic-bounded : T (finite intrinsic)
+  intrinsic-bounded = in-both (λ (z : Float). T (finite z)) call (difference-finite f k forward strike) (difference-finite k f strike forward)
+
+  bound-bounded : T (finite bound)
+  bound-bounded = in-both (λ (z : Float). T (finite z)) call (positive-finite f (forward .above)) (positive-finite k (strike .above))
+
+  pub infinite-figures : (s : Bool) → afterTests call (inf s) f k t ≡ atOnce (refused (cond (eq t plusZero) 5 (cond s 7 6)))
+  infinite-figures s =
+      from-price-is (inf s) intrinsic bound roots (negativeAbsLogMoneyness f k) t
+      ∙ rw (
+        infinite-not-equal s (max intrinsic plusZero) (max-finite intrinsic plusZero intrinsic-bounded zero-finite),
+        infinite-not-equal s bound bound-bounded,
+      ) (go s (eq t plusZero))
+    where
+      past : Bool → Counted Outcome
+      past s = fromTimeValue (negativeAbsLogMoneyness f k) (normalisedTimeValue (inf s) intrinsic roots)
+
+      go : (s z : Bool) → cond z (atOnce (refused 5)) (cond (le bound (inf s)) (atOnce (refused 6)) (past s))
+          ≡ atOnce (refused (cond z 5 (cond s 7 6)))
+      go s true = refl
+      go false false = rw (at-most-infinity bound bound-bounded)
+      go true false =
+          rw (not-minus-infinity bound bound-bounded)
+          (infinite-time-value (negativeAbsLogMoneyness f k) intrinsic roots intrinsic-bounded
+          (roots-positive f k (forward .above) (forward .held) (strike .above) (strike .held)))
 
 -- the numbers of a quote's refusals
 abbrev pub OneToNineOr15 : ℕ → Type 0
@@ -196,7 +235,7 @@ module _ (side : ℕ) (p f k t d : Float) where
       ∙ in-both NoSearch (eqb (discountedRefusal side p f k t d) 0) (money-figures side (p ⊘ d) f k t e) refl
 
   -- ---- THE DIVIDED PRICE is what is solved
-  past-tests : DiscountedDomain side p f k t d → fromDiscountedQuote side p f k t d ≡ fromFigures side (p ⊘ d) f k t
+  pub past-tests : DiscountedDomain side p f k t d → fromDiscountedQuote side p f k t d ≡ fromFigures side (p ⊘ d) f k t
   unfolding fromDiscountedQuote
   past-tests h = rw (discounted-passes h)
 
@@ -207,7 +246,7 @@ module _ (side : ℕ) (p f k t d : Float) where
       let q = kind-refused _ m (lit≤ tt) (figures-kind side (p ⊘ d) f k t) (sym (ap (λ c. c .result) (compared-discounted ∙ past-tests h)) ∙ e) in
       (q .0, q .1)
 
-  divided-domain : DiscountedDomain side p f k t d → isFinite (p ⊘ d) ≡ true → Domain side (p ⊘ d) f k t
+  pub divided-domain : DiscountedDomain side p f k t d → isFinite (p ⊘ d) ≡ true → Domain side (p ⊘ d) f k t
   divided-domain h q =
       let g = h .figures in
       record {
@@ -232,27 +271,6 @@ module _ (side : ℕ) (p f k t d : Float) where
 
   -- ---- A QUOTIENT THAT OVERFLOWS
   module _ (F : T (fits binary64 f)) (K : T (fits binary64 k)) (h : DiscountedDomain side p f k t d) where
-    forward : PositiveValue f
-    forward = record { above = above-positive f (h .figures .forward-finite) (h .figures .forward-above); held = F }
-
-    strike : PositiveValue k
-    strike = record { above = above-positive k (h .figures .strike-finite) (h .figures .strike-above); held = K }
-
-    abbrev intrinsic : Float
-    intrinsic = intrinsicValue side f k
-
-    abbrev bound : Float
-    bound = priceBound side f k
-
-    abbrev roots : Float
-    roots = sqrt f ⊗ sqrt k
-
-    intrinsic-bounded : T (finite intrinsic)
-    intrinsic-bounded = intrinsic-finite side f k forward strike
-
-    bound-bounded : T (finite bound)
-    bound-bounded = in-both (λ (z : Float). T (finite z)) (eqb side 0) (positive-finite f (forward .above)) (positive-finite k (strike .above))
-
     infinite-quotient : isFinite (p ⊘ d) ≡ false → (s : Bool) × (p ⊘ d ≡ inf s)
     infinite-quotient e =
         let number = finite-no-nan p (subst T (sym (h .figures .price-finite)) tt) in
@@ -263,34 +281,16 @@ module _ (side : ℕ) (p f k t d : Float) where
         go (inf s) e n = (s, refl)
         go (fin s m x) e n = absurd (true≢false e)
 
-    -- the number by the sign of the infinite quotient
-    refused-as : (s : Bool) → fromFigures side (inf s) f k t ≡ atOnce (refused (cond (eq t plusZero) 5 (cond s 7 6)))
-    refused-as s =
-        from-price-is (inf s) intrinsic bound roots (negativeAbsLogMoneyness f k) t
-        ∙ rw (
-          infinite-not-equal s (max intrinsic plusZero) (max-finite intrinsic plusZero intrinsic-bounded zero-finite),
-          infinite-not-equal s bound bound-bounded,
-        ) (go s (eq t plusZero))
-      where
-        past : Bool → Counted Outcome
-        past s = fromTimeValue (negativeAbsLogMoneyness f k) (normalisedTimeValue (inf s) intrinsic roots)
-
-        go : (s z : Bool) → cond z (atOnce (refused 5)) (cond (le bound (inf s)) (atOnce (refused 6)) (past s))
-            ≡ atOnce (refused (cond z 5 (cond s 7 6)))
-        go s true = refl
-        go false false = rw (at-most-infinity bound bound-bounded)
-        go true false =
-            rw (not-minus-infinity bound bound-bounded)
-            (infinite-time-value (negativeAbsLogMoneyness f k) intrinsic roots intrinsic-bounded
-            (roots-positive f k (forward .above) F (strike .above) K))
-
     -- 5 at time zero; else 6 where the quotient is positive, and 7 where it is negative
     pub overflow-refused : isFinite (p ⊘ d) ≡ false
         → impliedBlackVolatilityDiscounted side p f k t d ≡ refusal (cond (eq t plusZero) 5 (cond (lt plusZero (p ⊘ d)) 6 7)) 0
     unfolding impliedBlackVolatilityDiscounted lt ofBits
     overflow-refused e =
         let (s, i) = infinite-quotient e in
-        ap (reply t) (past-tests h ∙ ap (λ (q : Float). fromFigures side q f k t) i ∙ refused-as s)
+        let g = h .figures in
+        let forward : PositiveValue f = record { above = above-positive f (g .forward-finite) (g .forward-above); held = F } in
+        let strike : PositiveValue k = record { above = above-positive k (g .strike-finite) (g .strike-above); held = K } in
+        ap (reply t) (past-tests h ∙ ap (λ (q : Float). fromFigures side q f k t) i ∙ infinite-figures (eqb side 0) f k t forward strike s)
         ∙ ap (λ (n : ℕ). refusal (cond (eq t plusZero) 5 n) 0) (sign s ∙ sym (ap (λ (q : Float). cond (lt plusZero q) 6 7) i))
       where
         sign : (s : Bool) → _≡_ {A = ℕ} (cond s 7 6) (cond (lt plusZero (inf s)) 6 7)
@@ -335,3 +335,14 @@ module _ (side : ℕ) (p f k t : Float) (P : T (fits binary64 p)) where
   pub factor-one : impliedBlackVolatilityDiscounted side p f k t one ≡ impliedBlackVolatilityInput side p f k t
   unfolding impliedBlackVolatilityDiscounted impliedBlackVolatilityInput
   factor-one = ap (reply t) one-outcome
+
+-- ---- FOR FIGURES OF ANY BITS
+module _ (side p f k t : ℕ) where
+  pub factor-one-at-bits : impliedBlackVolatilityDiscounted side (bits p) (bits f) (bits k) (bits t) one
+      ≡ impliedBlackVolatilityInput side (bits p) (bits f) (bits k) (bits t)
+  factor-one-at-bits = factor-one side (bits p) (bits f) (bits k) (bits t) (ofBits-fits binary64 p)
+
+  pub overflow-at-bits : (d : ℕ) → DiscountedDomain side (bits p) (bits f) (bits k) (bits t) (bits d) → isFinite (bits p ⊘ bits d) ≡ false
+      → impliedBlackVolatilityDiscounted side (bits p) (bits f) (bits k) (bits t) (bits d)
+      ≡ refusal (cond (eq (bits t) plusZero) 5 (cond (lt plusZero (bits p ⊘ bits d)) 6 7)) 0
+  overflow-at-bits d = overflow-refused side (bits p) (bits f) (bits k) (bits t) (bits d) (ofBits-fits binary64 f) (ofBits-fits binary64 k)

@@ -1,287 +1,211 @@
 -- Demand 3 for quotes with discount factors (REQUIREMENTS 14.7): a quote, and one whose factor is equal and whose divided price, forward and strike are
--- exactly 4 ^ n times its own, on the same side or exchanged, have one total volatility or refusal number, and one count. And where raw prices that are
--- exactly 4 ^ n times each other have such divided prices; and minus zero as price. Assumes nothing.
+-- exactly 4 ^ n times its own, on the same side or exchanged, have one total volatility or refusal number, and one count. So have quotes whose prices
+-- themselves are exactly 4 ^ n times each other, where the divided prices are above 2 ^ -1022 or 0. And minus zero as price. Assumes nothing.
 use mathlib.Core.Path.{_≡_, refl, sym, ap, _∙_, subst}
 use mathlib.Core.Logic.{_⊎_, inl, inr}
-use Prim.Native.Nat.{ℕ, zero, suc, _+_, _*_}
-use native.Mathlib.Nat.{zero-mul, mul-pos}
-use native.Mathlib.Omega.{arith}
+use Prim.Native.Nat.{ℕ, zero, suc, _*_, _<_}
+use native.Mathlib.Nat.{lt-irrefl, zero-mul, eq-zero-or-pos}
+use native.Mathlib.Nat.{eq-of-mul-eq-mul-right}
 use mathlib.Core.Bool.{Bool, true, false, cond, _||_}
 use lib.IntN.{ℤ, pos, negsuc}
-use lib.Dec.{T, eqb, eqb·suc-zero, ltb, ltb→lt, lit≤}
-use borrow.Author.Tests.{eq-eqb}
-use lib.Ieee.{Float, nan, inf, fin, binary64, fits, unlike, below, sub, div, lt, le, eq, isNan, ofBits}
-use lib.Ieee.Fits.{div-fits}
-use lib.Ieee.Bits.{is-true, ofBits-fits}
+use lib.Dec.{T, eqb, eqb·suc-zero, eqb→eq, lit≤}
+use lib.Ieee.{Float, nan, inf, fin, binary64, fits, sub, div, lt, le, eq, isNan, ofBits}
+use lib.Ieee.Fits.{div-fits, and-l, eq→eqb}
+use lib.Ieee.Bits.{ofBits-fits}
 use lib.Ieee.Scale.{finite}
 use lib.Ieee.Positive.{num, den, den-pos, positive}
 use Rattle.arithmetic.specs.Operations.{_⊘_, bits, plusZero, two, minPositive}
 use Rattle.arithmetic.specs.Basic.{isSignMinus, max, isFinite}
 use Rattle.arithmetic.specs.Laws.Times.{num-positive}
-use Rattle.arithmetic.specs.Laws.Compare.{lt-is, not-le, above-zero}
-use Rattle.arithmetic.specs.Laws.Products.{div-is}
-use Rattle.arithmetic.specs.Laws.Quotients.{over-positive}
-use Rattle.arithmetic.specs.Laws.Sizes.{round-minus}
-use Rattle.arithmetic.specs.Laws.ScaledProducts.{quotient-times}
-use Rattle.arithmetic.specs.Laws.Zeros.{zeroOf, equal-same}
+use Rattle.arithmetic.specs.Laws.Compare.{above-zero}
+use Rattle.arithmetic.specs.Laws.Zeros.{zeroOf, zero-by-sign, equal-same}
 use Rattle.bs_option_price.specs.Laws.Moneyness.{BoundedRatio}
 use Rattle.explicit_black.specs.Counted.{atOnce}
-use Rattle.explicit_black.specs.Quote.{refused, answer, refusal, volatilityOver, reply, firstRefusal, fromPrice, fromFigures, fromQuote}
-use Rattle.explicit_black.specs.Price.{BothAboveOrZero}
-use Rattle.explicit_black.specs.Demand.{fourUp, fourDown, Exactly, ComparablePair, ComparableFigures, ComparableTimes}
-use Rattle.explicit_black.specs.Discount.{discountedRefusal, fromDiscountedQuote, impliedBlackVolatilityDiscounted, discountedAtBits, Agree}
-use Rattle.explicit_black.specs.Laws.ZeroPrice.{IsZero, round-is-zero, zero-not-below, minusZero}
+use Rattle.explicit_black.specs.Quote.{refused, answer, refusal, volatilityOver, reply, firstRefusal, fromPrice, fromFigures}
+use Rattle.explicit_black.specs.Price.{AboveOrZero}
+use Rattle.explicit_black.specs.Demand.{Exactly, ComparablePair, ComparableFigures, ComparableTimes}
+use Rattle.explicit_black.specs.Discount.{discountedRefusal, fromDiscountedQuote, impliedBlackVolatilityDiscounted, discountedAtBits, DiscountedAgree}
+use Rattle.explicit_black.specs.Laws.ZeroPrice.{minusZero}
 use Rattle.explicit_black.specs.Laws.Powers.{comparable-pair, comparable, four-times}
-use Rattle.explicit_black.specs.Laws.Price.{times-up, times-down, flipped}
-use Rattle.explicit_black.specs.Laws.Demand.{times-tested, first-refusal-is, Related, related-times, vanish, upward, downward}
-use Rattle.explicit_black.specs.Laws.Demand.{ComparableValues, clear-or-zero, zero-after-tests, same-outcome, other-outcome, comparable-ratio}
-use Rattle.explicit_black.specs.Laws.Demand.{callForward, callStrike, putForward, putStrike, timeOne, comparable-call, comparable-put}
-use Rattle.explicit_black.specs.Laws.Discount.{test15, factor-not-finite, factor-tested-last, discounted-passed, divided-outcome}
-use Rattle.explicit_black.specs.Laws.Discount.{compared-discounted}
+use Rattle.explicit_black.specs.Laws.Demand.{times-tested, first-refusal-is, afterTests, swapped, exchanged}
+use Rattle.explicit_black.specs.Laws.Demand.{zero-after-tests, ComparableValues, same-figures, comparable-ratio}
+use Rattle.explicit_black.specs.Laws.Demand.{callPrice, callForward, callStrike, putPrice, putForward, putStrike, timeOne}
+use Rattle.explicit_black.specs.Laws.Demand.{comparable-call, comparable-put}
+use Rattle.explicit_black.specs.Laws.Discount.{test15, factor-not-finite, factor-tested-last, discounted-passed, past-tests, compared-discounted}
+use Rattle.explicit_black.specs.Laws.DividedPrices.{dividend-finite, zero-quotient, divided-values, scaled-figures}
 
--- ---- a price over a factor
-dividend-finite : (p d : Float) → T (finite (p ⊘ d)) → T (finite p)
-unfolding div
-dividend-finite nan d h = absurd h
-dividend-finite (inf s) nan h = absurd h
-dividend-finite (inf s) (inf t) h = absurd h
-dividend-finite (inf s) (fin t n e) h = absurd h
-dividend-finite (fin s m e) d h = tt
+-- ---- two factors that are equal: tests 2 and 15 say the same of them, and they are the same where they are above 0
+record SameFactor (d d' : Float) : Type 0 where
+  pub finite-alike : isFinite d' ≡ isFinite d
+  pub above-alike : lt plusZero d' ≡ lt plusZero d
+  pub same : T (positive d) → d' ≡ d
 
-at-least-zero : (v : Float) → T (finite v) → (isSignMinus v ≡ false) ⊎ (num v ≡ 0) → T (le plusZero v)
-unfolding ofBits
-at-least-zero v p (inr z) = subst T (sym (zero-not-below v (record { bounded = p; vanishes = z }))) tt
-at-least-zero v p (inl s) = go (le plusZero v) refl
+one-factor : (d d' : Float) → d' ≡ d → SameFactor d d'
+one-factor d d' e = record { finite-alike = ap isFinite e; above-alike = ap (lt plusZero) e; same = λ D. e }
+
+zero-not-above : (v : Float) → T (fits binary64 v) → T (finite v) → num v ≡ 0 → lt plusZero v ≡ false
+unfolding lt ofBits
+zero-not-above v F p z = ap (lt plusZero) (zero-by-sign v F p z) ∙ go (isSignMinus v)
   where
-    not-under : (a b c : ℕ) → b ≡ 0 * c → T (ltb a b) → ⊥
-    not-under a b c e t = let l = ltb→lt a b t in omega (arith, zero-mul c)
+    go : (s : Bool) → lt plusZero (zeroOf s) ≡ false
+    go true = refl
+    go false = refl
 
-    below-zero : lt v plusZero ≡ true → ⊥
-    below-zero l =
-        let b : ltb (num v * 1) (0 * den v) ≡ true =
-        ap (λ (z : Bool). below z (num v * 1) false (0 * den v)) (sym s) ∙ sym (lt-is v plusZero p tt) ∙ l in
-        not-under (num v * 1) (0 * den v) (den v) refl (subst T (sym b) tt)
-
-    go : (b : Bool) → le plusZero v ≡ b → T (le plusZero v)
-    go true e = subst T (sym e) tt
-    go false e = absurd (below-zero (not-le plusZero v tt p e))
-
-module _ (p d : Float) (P : T (finite p)) (D : T (positive d)) where
-  quotient-zero : num p ≡ 0 → num (p ⊘ d) ≡ 0
-  quotient-zero z =
-      ap num (over-positive p d P D)
-      ∙ round-is-zero (isSignMinus p) (num p * den d) (num d * den p) (mul-pos (num-positive d D) (den-pos p)) (rw z (zero-mul (den d))) .vanishes
-
-  quotient-not-negative : T (le plusZero p) → T (finite (p ⊘ d)) → T (le plusZero (p ⊘ d))
-  quotient-not-negative h q = at-least-zero (p ⊘ d) q (go (clear-or-zero p P h))
-    where
-      go : (isSignMinus p ≡ false) ⊎ (num p ≡ 0) → (isSignMinus (p ⊘ d) ≡ false) ⊎ (num (p ⊘ d) ≡ 0)
-      go (inl c) = inl (ap isSignMinus (over-positive p d P D) ∙ round-minus (isSignMinus p) _ _ ∙ c)
-      go (inr z) = inr (quotient-zero z)
-
-divisor-not-zero : (p d : Float) → T (finite d) → T (finite (p ⊘ d)) → num d ≡ 0 → ⊥
-divisor-not-zero p d D q z =
-    go (eqb (num p) 0) (rw (div-is binary64 p d (dividend-finite p d q) D, eq-eqb (num d) 0 z) at q)
-  where
-    go : (i : Bool) → T (finite (cond i nan (inf (unlike (isSignMinus p) (isSignMinus d))))) → ⊥
-    go true h = absurd h
-    go false h = absurd h
-
--- two factors that are equal are the same, where they have a finite quotient
-equal-factors : (p d d' : Float) → T (fits binary64 d) → T (fits binary64 d') → T (finite (p ⊘ d)) → T (eq d d') → d' ≡ d
+equal-factors : (d d' : Float) → T (fits binary64 d) → T (fits binary64 d') → T (eq d d') → SameFactor d d'
 unfolding eq
-equal-factors p nan d' F F' q e = absurd e
-equal-factors p (inf s) nan F F' q e = absurd e
-equal-factors p (inf true) (inf true) F F' q e = refl
-equal-factors p (inf true) (inf false) F F' q e = absurd e
-equal-factors p (inf false) (inf true) F F' q e = absurd e
-equal-factors p (inf false) (inf false) F F' q e = refl
-equal-factors p (inf s) (fin t n x) F F' q e = absurd e
-equal-factors p (fin s m x) nan F F' q e = absurd e
-equal-factors p (fin s m x) (inf t) F F' q e = absurd e
-equal-factors p (fin s m x) (fin t n y) F F' q e = sym (equal-same (fin s m x) (fin t n y) F F' tt tt e (divisor-not-zero p (fin s m x) tt q))
-
--- ---- raw prices that are exactly 4 ^ n times each other, over a factor above 0: so are the quotients, where both are above 2 ^ -1022 or both are 0
-module _ (p p' d : Float) (D : T (positive d)) where
-  zeros-exactly : (n : ℤ) → T (finite (p ⊘ d)) → T (finite (p' ⊘ d)) → num (p ⊘ d) ≡ 0 → num (p' ⊘ d) ≡ 0 → Exactly n (p ⊘ d) (p' ⊘ d)
-  zeros-exactly n q q' z z' = record {
-    finite-x = q;
-    finite-y = q';
-    fraction = rw (z, z') (zeros (den (p ⊘ d)) (den (p' ⊘ d)) (fourDown n) (fourUp n));
-    signs = inl z;
-  }
-    where
-      zeros : (a b c e : ℕ) → 0 * a * c ≡ 0 * b * e
-      zeros a b c e = rw (zero-mul a, zero-mul b, zero-mul c, zero-mul e)
-
-pub divided-exactly : (n : ℤ) (p p' d : Float) → T (positive d) → Exactly n p p' → BothAboveOrZero (p ⊘ d) (p' ⊘ d) → Exactly n (p ⊘ d) (p' ⊘ d)
-divided-exactly n p p' d D e h = go n e
+equal-factors nan d' F F' e = absurd e
+equal-factors (inf s) nan F F' e = absurd e
+equal-factors (inf true) (inf true) F F' e = one-factor _ _ refl
+equal-factors (inf true) (inf false) F F' e = absurd e
+equal-factors (inf false) (inf true) F F' e = absurd e
+equal-factors (inf false) (inf false) F F' e = one-factor _ _ refl
+equal-factors (inf s) (fin t n x) F F' e = absurd e
+equal-factors (fin s m x) nan F F' e = absurd e
+equal-factors (fin s m x) (inf t) F F' e = absurd e
+equal-factors (fin s m x) (fin t n y) F F' e = go (eq-zero-or-pos (num d))
   where
-    P : T (finite p)
-    P = dividend-finite p d (h .first-finite)
+    d : Float
+    d = fin s m x
 
-    P' : T (finite p')
-    P' = dividend-finite p' d (h .second-finite)
+    d' : Float
+    d' = fin t n y
 
-    vanishing : (n : ℤ) → num p ≡ 0 → num p' ≡ 0 → Exactly n (p ⊘ d) (p' ⊘ d)
-    vanishing n z z' = zeros-exactly p p' d D n (h .first-finite) (h .second-finite) (quotient-zero p d P D z) (quotient-zero p' d P' D z')
+    go : (num d ≡ 0) ⊎ (0 < num d) → SameFactor d d'
+    go (inr l) = one-factor d d' (sym (equal-same d d' F F' tt tt e (λ z. lt-irrefl 0 (subst (λ (i : ℕ). 0 < i) z l))))
+    go (inl z) =
+        let cross : num d * den d' ≡ num d' * den d = eqb→eq _ _ (and-l (eqb (num d * den d') (num d' * den d)) _ e) in
+        let z' : num d' ≡ 0 =
+        eq-of-mul-eq-mul-right (den d) (den-pos d) (num d') 0 (sym cross ∙ ap (λ (i : ℕ). i * den d') z ∙ zero-mul (den d') ∙ sym (zero-mul (den d))) in
+        record {
+          finite-alike = refl;
+          above-alike = zero-not-above d' F' tt z' ∙ sym (zero-not-above d F tt z);
+          same = λ D. absurd (lt-irrefl 0 (subst (λ (i : ℕ). 0 < i) z (num-positive d D)));
+        }
 
-    one-above : {A B C : Type 0} → (A × B) ⊎ C → A ⊎ C
-    one-above (inl (a, b)) = inl a
-    one-above (inr c) = inr c
-
-    up : (n : ℕ) → Related (n + n) p p' → Exactly (pos n) (p ⊘ d) (p' ⊘ d)
-    up n (vanish z z') = vanishing (pos n) z z'
-    up n (related-times g) =
-        times-up n _ _ (quotient-times (n + n) p p' d g D (h .first-finite) (h .second-finite) (one-above (h .above-or-zero)))
-
-    down : (n : ℕ) → Related (suc n + suc n) p' p → Exactly (negsuc n) (p ⊘ d) (p' ⊘ d)
-    down n (vanish z z') = vanishing (negsuc n) z' z
-    down n (related-times g) =
-        times-down n _ _
-        (quotient-times (suc n + suc n) p' p d g D (h .second-finite) (h .first-finite) (one-above (flipped (p ⊘ d) (p' ⊘ d) h .above-or-zero)))
-
-    go : (n : ℤ) → Exactly n p p' → Exactly n (p ⊘ d) (p' ⊘ d)
-    go (pos n) e = up n (upward n p p' e)
-    go (negsuc n) e = down n (downward n p p' e)
-
--- ---- two quotes with one factor whose first refusals are one: they agree where the quotes of the divided prices do
-agree : (side side' : ℕ) (p f k t p' f' k' t' d : Float) → T (finite (p ⊘ d)) → T (finite (p' ⊘ d))
-    → discountedRefusal side' p' f' k' t' d ≡ discountedRefusal side p f k t d
-    → (T (positive d) → fromQuote side' (p' ⊘ d) f' k' t' ≡ fromQuote side (p ⊘ d) f k t)
-    → fromDiscountedQuote side' p' f' k' t' d ≡ fromDiscountedQuote side p f k t d
-agree side side' p f k t p' f' k' t' d q q' e same = go (discountedRefusal side p f k t d) refl
+-- ---- two quotes whose first refusals are one agree where what follows their tests does
+after-tests : (side side' : ℕ) (p f k t d p' f' k' t' d' : Float) → discountedRefusal side' p' f' k' t' d' ≡ discountedRefusal side p f k t d
+    → (T (positive d) → fromFigures side' (p' ⊘ d') f' k' t' ≡ fromFigures side (p ⊘ d) f k t)
+    → fromDiscountedQuote side' p' f' k' t' d' ≡ fromDiscountedQuote side p f k t d
+after-tests side side' p f k t d p' f' k' t' d' e same = go (discountedRefusal side p f k t d) refl
   where
-    go : (n : ℕ) → discountedRefusal side p f k t d ≡ n → fromDiscountedQuote side' p' f' k' t' d ≡ fromDiscountedQuote side p f k t d
+    go : (n : ℕ) → discountedRefusal side p f k t d ≡ n → fromDiscountedQuote side' p' f' k' t' d' ≡ fromDiscountedQuote side p f k t d
     go zero i =
         let h = discounted-passed side p f k t d i in
-        let h' = discounted-passed side' p' f' k' t' d (e ∙ i) in
-        divided-outcome side' p' f' k' t' d h' (is-true (finite (p' ⊘ d)) q')
+        past-tests side' p' f' k' t' d' (discounted-passed side' p' f' k' t' d' (e ∙ i))
         ∙ same (above-zero d (subst T (sym (h .factor-finite)) tt) (h .factor-above))
-        ∙ sym (divided-outcome side p f k t d h (is-true (finite (p ⊘ d)) q))
+        ∙ sym (past-tests side p f k t d h)
     go (suc n) i = unfold fromDiscountedQuote in rw (e, i, eqb·suc-zero n)
 
--- ---- demand 3 for values of binary64: where the factor is above 0, the divided prices are not negative and scale exactly
-module _ (n : ℤ) (p f k t p' f' k' t' d : Float) (h : BoundedRatio f k) (h' : BoundedRatio f' k') (w : ComparableTimes t t')
-    (q : T (finite (p ⊘ d))) (q' : T (finite (p' ⊘ d)))
-    (s : T (positive d) → T (le plusZero (p ⊘ d)) × T (le plusZero (p' ⊘ d)) × Exactly n (p ⊘ d) (p' ⊘ d)) where
+-- ---- demand 3 for values of binary64, where it holds of what follows the tests, on the same side, for every forward and strike
+module _ (n : ℤ) (p f k t d p' f' k' t' d' : Float) (P : T (finite p)) (P' : T (finite p')) (h : BoundedRatio f k) (h' : BoundedRatio f' k')
+    (w : ComparableTimes t t') (c : SameFactor d d')
+    (figures : T (positive d) → (call : Bool) (f' k' : Float) → BoundedRatio f' k' → Exactly n f f' → Exactly n k k'
+    → afterTests call (p' ⊘ d') f' k' t' ≡ afterTests call (p ⊘ d) f k t) where
   -- the first refusals are one, by side and factor alone
   numbers : (side side' : ℕ) → (eqb side' 0 || eqb side' 1) ≡ (eqb side 0 || eqb side 1)
-      → discountedRefusal side' p' f' k' t' d ≡ discountedRefusal side p f k t d
+      → discountedRefusal side' p' f' k' t' d' ≡ discountedRefusal side p f k t d
   numbers side side' e = go (isFinite d) refl
     where
       first : firstRefusal side' p' f' k' t' ≡ firstRefusal side p f k t
       first =
           let (z, u, v) = times-tested t t' w in
-          first-refusal-is side' p' f' k' t' z (dividend-finite p' d q') h' v
-          ∙ ap (λ (b : Bool). cond b 0 1) e
-          ∙ sym (first-refusal-is side p f k t z (dividend-finite p d q) h u)
+          first-refusal-is side' p' f' k' t' z P' h' v ∙ ap (λ (b : Bool). cond b 0 1) e ∙ sym (first-refusal-is side p f k t z P h u)
 
-      go : (b : Bool) → isFinite d ≡ b → discountedRefusal side' p' f' k' t' d ≡ discountedRefusal side p f k t d
+      go : (b : Bool) → isFinite d ≡ b → discountedRefusal side' p' f' k' t' d' ≡ discountedRefusal side p f k t d
       go true i =
-          factor-tested-last side' p' f' k' t' d i
-          ∙ ap (λ (n : ℕ). cond (eqb n 0) (test15 d) n) first
+          factor-tested-last side' p' f' k' t' d' (c .finite-alike ∙ i)
+          ∙ ap (λ (n : ℕ). cond (eqb n 0) (test15 d') n) first
+          ∙ ap (λ (b : Bool). cond (eqb (firstRefusal side p f k t) 0) (cond b 0 15) (firstRefusal side p f k t)) (c .above-alike)
           ∙ sym (factor-tested-last side p f k t d i)
       go false i =
-          factor-not-finite side' p' f' k' t' d i ∙ ap (λ (b : Bool). cond b 2 1) e ∙ sym (factor-not-finite side p f k t d i)
+          factor-not-finite side' p' f' k' t' d' (c .finite-alike ∙ i)
+          ∙ ap (λ (b : Bool). cond b 2 1) e
+          ∙ sym (factor-not-finite side p f k t d i)
 
-  values : T (positive d) → ComparableValues (p ⊘ d) f k
-  values D = record { held = div-fits binary64 p d; bounded = q; not-negative = s D .0; pair = h }
-
-  values' : T (positive d) → ComparableValues (p' ⊘ d) f' k'
-  values' D = record { held = div-fits binary64 p' d; bounded = q'; not-negative = s D .1; pair = h' }
-
-  same-discounted : (side : ℕ) → Exactly n f f' → Exactly n k k' → fromDiscountedQuote side p' f' k' t' d ≡ fromDiscountedQuote side p f k t d
+  same-discounted : (side : ℕ) → Exactly n f f' → Exactly n k k' → fromDiscountedQuote side p' f' k' t' d' ≡ fromDiscountedQuote side p f k t d
   same-discounted side g i =
-      agree side side p f k t p' f' k' t' d q q' (numbers side side refl)
-      (λ D. same-outcome (p ⊘ d) f k t (p' ⊘ d) f' k' t' (values D) (values' D) w n side (s D .2) g i)
+      after-tests side side p f k t d p' f' k' t' d' (numbers side side refl) (λ D. figures D (eqb side 0) f' k' h' g i)
 
-  other-discounted : Exactly n k f' → Exactly n f k' → (fromDiscountedQuote 1 p' f' k' t' d ≡ fromDiscountedQuote 0 p f k t d)
-      × (fromDiscountedQuote 0 p' f' k' t' d ≡ fromDiscountedQuote 1 p f k t d)
-  other-discounted g i =
-      (agree 0 1 p f k t p' f' k' t' d q q' (numbers 0 1 refl) (λ D. both D .0), agree 1 0 p f k t p' f' k' t' d q q' (numbers 1 0 refl) (λ D. both D .1))
-    where
-      both : T (positive d) → (fromQuote 1 (p' ⊘ d) f' k' t' ≡ fromQuote 0 (p ⊘ d) f k t) × (fromQuote 0 (p' ⊘ d) f' k' t' ≡ fromQuote 1 (p ⊘ d) f k t)
-      both D = other-outcome (p ⊘ d) f k t (p' ⊘ d) f' k' t' (values D) (values' D) w n (s D .2) g i
+  other-discounted : Exactly n k f' → Exactly n f k' → (fromDiscountedQuote 1 p' f' k' t' d' ≡ fromDiscountedQuote 0 p f k t d)
+      × (fromDiscountedQuote 0 p' f' k' t' d' ≡ fromDiscountedQuote 1 p f k t d)
+  other-discounted g i = (
+    after-tests 0 1 p f k t d p' f' k' t' d' (numbers 0 1 refl) (λ D. exchanged true (p' ⊘ d') f' k' t' h' ∙ figures D true k' f' (swapped f' k' h') i g),
+    after-tests 1 0 p f k t d p' f' k' t' d' (numbers 1 0 refl) (λ D. exchanged false (p' ⊘ d') f' k' t' h' ∙ figures D false k' f' (swapped f' k' h') i g),
+  )
 
 -- ---- DEMAND 3, for figures of any bits, factors included
-
 module _ (n : ℤ) (p f k t d p' f' k' t' d' : ℕ) (w : ComparableTimes (bits t) (bits t')) (e : T (eq (bits d) (bits d'))) where
-  abbrev first : Float
-  first = bits p ⊘ bits d
+  abbrev quotient : Float
+  quotient = bits p ⊘ bits d
 
-  abbrev second : Float
-  second = bits p' ⊘ bits d'
+  abbrev quotient' : Float
+  quotient' = bits p' ⊘ bits d'
 
-  same-factor : T (finite first) → bits d' ≡ bits d
-  same-factor q = equal-factors (bits p) (bits d) (bits d') (ofBits-fits binary64 d) (ofBits-fits binary64 d') q e
+  factors : SameFactor (bits d) (bits d')
+  factors = equal-factors (bits d) (bits d') (ofBits-fits binary64 d) (ofBits-fits binary64 d') e
 
-  module _ (h : ComparablePair (bits f) (bits k)) (h' : ComparablePair (bits f') (bits k')) (q : T (finite first)) (q' : T (finite second))
-      (s : T (positive (bits d)) → T (positive (bits d')) → T (le plusZero first) × T (le plusZero second) × Exactly n first second) where
-    same : bits d' ≡ bits d
-    same = same-factor q
-
-    agree-by : Agree n p f k t d p' f' k' t' d'
+  module _ (h : ComparablePair (bits f) (bits k)) (h' : ComparablePair (bits f') (bits k')) (P : T (finite (bits p))) (P' : T (finite (bits p')))
+      (figures : T (positive (bits d)) → (call : Bool) (f' k' : Float) → BoundedRatio f' k' → Exactly n (bits f) f' → Exactly n (bits k) k'
+      → afterTests call quotient' f' k' (bits t') ≡ afterTests call quotient (bits f) (bits k) (bits t)) where
+    agree-by : DiscountedAgree n p f k t d p' f' k' t' d'
     agree-by = record {
-      same-side = λ side g i. is' side ∙ scaled side g i ∙ sym (is side);
-      other-side = λ g i. let r = other g i in (is' 1 ∙ r .0 ∙ sym (is 0), is' 0 ∙ r .1 ∙ sym (is 1));
+      same-side = λ side g i. is' side ∙ same-discounted n _ _ _ _ _ _ _ _ _ _ P P' r r' w factors figures side g i ∙ sym (is side);
+      other-side = λ g i.
+          let q = other-discounted n _ _ _ _ _ _ _ _ _ _ P P' r r' w factors figures g i in
+          (is' 1 ∙ q .0 ∙ sym (is 0), is' 0 ∙ q .1 ∙ sym (is 1));
     }
       where
+        r : BoundedRatio (bits f) (bits k)
+        r = comparable-ratio f k h
+
+        r' : BoundedRatio (bits f') (bits k')
+        r' = comparable-ratio f' k' h'
+
         is : (side : ℕ) → discountedAtBits side p f k t d ≡ fromDiscountedQuote side (bits p) (bits f) (bits k) (bits t) (bits d)
         is side = compared-discounted side (bits p) (bits f) (bits k) (bits t) (bits d)
 
-        is' : (side : ℕ) → discountedAtBits side p' f' k' t' d' ≡ fromDiscountedQuote side (bits p') (bits f') (bits k') (bits t') (bits d)
-        is' side =
-            compared-discounted side (bits p') (bits f') (bits k') (bits t') (bits d')
-            ∙ ap (fromDiscountedQuote side (bits p') (bits f') (bits k') (bits t')) same
+        is' : (side : ℕ) → discountedAtBits side p' f' k' t' d' ≡ fromDiscountedQuote side (bits p') (bits f') (bits k') (bits t') (bits d')
+        is' side = compared-discounted side (bits p') (bits f') (bits k') (bits t') (bits d')
 
-        terms : T (positive (bits d)) → T (le plusZero first) × T (le plusZero (bits p' ⊘ bits d)) × Exactly n first (bits p' ⊘ bits d)
-        terms D = rw same at (s D (subst (λ (x : Float). T (positive x)) (sym same) D))
-
-        scaled : (side : ℕ) → Exactly n (bits f) (bits f') → Exactly n (bits k) (bits k')
-            → fromDiscountedQuote side (bits p') (bits f') (bits k') (bits t') (bits d) ≡ fromDiscountedQuote side (bits p) (bits f) (bits k) (bits t) (bits d)
-        scaled = same-discounted n (bits p) (bits f) (bits k) (bits t) (bits p') (bits f') (bits k') (bits t') (bits d) (comparable-ratio f k h)
-            (comparable-ratio f' k' h') w q (rw same at q') terms
-
-        other : Exactly n (bits k) (bits f') → Exactly n (bits f) (bits k')
-            → (fromDiscountedQuote 1 (bits p') (bits f') (bits k') (bits t') (bits d) ≡ fromDiscountedQuote 0 (bits p) (bits f) (bits k) (bits t) (bits d))
-            × (fromDiscountedQuote 0 (bits p') (bits f') (bits k') (bits t') (bits d) ≡ fromDiscountedQuote 1 (bits p) (bits f) (bits k) (bits t) (bits d))
-        other = other-discounted n (bits p) (bits f) (bits k) (bits t) (bits p') (bits f') (bits k') (bits t') (bits d) (comparable-ratio f k h)
-            (comparable-ratio f' k' h') w q (rw same at q') terms
+  -- The divided prices scale exactly; of the divided price, forward, strike and time what demand 3 asks. A price below 0 may divide to minus zero, and where
+  -- the factor is below 0 both quotes are refused.
+  pub divided-agree : ComparableFigures quotient (bits f) (bits k) → ComparableFigures quotient' (bits f') (bits k') → Exactly n quotient quotient'
+      → DiscountedAgree n p f k t d p' f' k' t' d'
+  divided-agree h h' x =
+      agree-by (h .pair) (h' .pair) (dividend-finite (bits p) (bits d) (x .finite-x)) (dividend-finite (bits p') (bits d') (x .finite-y))
+      (λ D call a b r' g i.
+      let values : ComparableValues quotient (bits f) (bits k) =
+      record { held = div-fits binary64 _ _; bounded = x .finite-x; not-negative = h .price-not-negative; pair = comparable-ratio f k (h .pair) } in
+      let values' : ComparableValues quotient' a b =
+      record { held = div-fits binary64 _ _; bounded = x .finite-y; not-negative = h' .price-not-negative; pair = r' } in
+      same-figures quotient (bits f) (bits k) (bits t) quotient' a b (bits t') values values' w n call x g i)
 
   module _ (h : ComparableFigures (bits p) (bits f) (bits k)) (h' : ComparableFigures (bits p') (bits f') (bits k')) where
-    not-negative : T (finite first) → T (finite second) → T (positive (bits d)) → T (positive (bits d')) → T (le plusZero first) × T (le plusZero second)
-    not-negative q q' D D' = (
-      quotient-not-negative (bits p) (bits d) (h .price-finite) D (h .price-not-negative) q,
-      quotient-not-negative (bits p') (bits d') (h' .price-finite) D' (h' .price-not-negative) q',
-    )
-
     -- The divided prices scale exactly; of price, forward, strike and time what demand 3 asks.
-    pub discounted-agree : Exactly n first second → Agree n p f k t d p' f' k' t' d'
+    pub discounted-agree : Exactly n quotient quotient' → DiscountedAgree n p f k t d p' f' k' t' d'
     discounted-agree x =
-        agree-by (h .pair) (h' .pair) (x .finite-x) (x .finite-y)
-        (λ D D'. let z = not-negative (x .finite-x) (x .finite-y) D D' in (z .0, z .1, x))
+        agree-by (h .pair) (h' .pair) (h .price-finite) (h' .price-finite)
+        (λ D call a b r' g i.
+        let r = comparable-ratio f k (h .pair) in
+        let values = divided-values (bits p) (bits f) (bits k) (bits d) D (h .price-finite) (h .price-not-negative) (x .finite-x) r in
+        let D' = subst (λ (z : Float). T (positive z)) (sym (factors .same D)) D in
+        let values' = divided-values (bits p') a b (bits d') D' (h' .price-finite) (h' .price-not-negative) (x .finite-y) r' in
+        same-figures quotient (bits f) (bits k) (bits t) quotient' a b (bits t') values values' w n call x g i)
 
-    -- The prices themselves scale exactly, and both quotients are above 2 ^ -1022, or both are 0.
-    pub scaled-agree : Exactly n (bits p) (bits p') → BothAboveOrZero first second → Agree n p f k t d p' f' k' t' d'
-    scaled-agree x b =
-        let c = same-factor (b .first-finite) in
-        agree-by (h .pair) (h' .pair) (b .first-finite) (b .second-finite)
-        (λ D D'. let z = not-negative (b .first-finite) (b .second-finite) D D' in
-        (z .0, z .1, rw c (divided-exactly n (bits p) (bits p') (bits d) D x (rw c at b))))
-
-  -- The divided prices scale exactly; of the divided price, forward, strike and time what demand 3 asks. The price may be below 0 here, where the quotient
-  -- is minus zero.
-  pub divided-agree : ComparableFigures first (bits f) (bits k) → ComparableFigures second (bits f') (bits k') → Exactly n first second
-      → Agree n p f k t d p' f' k' t' d'
-  divided-agree h h' x = agree-by (h .pair) (h' .pair) (x .finite-x) (x .finite-y) (λ D D'. (h .price-not-negative, h' .price-not-negative, x))
+    -- The prices themselves scale exactly, and both divided prices are above 2 ^ -1022, or both are 0. They may be infinite.
+    pub scaled-agree : Exactly n (bits p) (bits p') → AboveOrZero quotient quotient' → DiscountedAgree n p f k t d p' f' k' t' d'
+    scaled-agree x z =
+        agree-by (h .pair) (h' .pair) (h .price-finite) (h' .price-finite)
+        (λ D call a b r' g i.
+        let c = factors .same D in
+        rw c
+        (scaled-figures n (bits p) (bits f) (bits k) (bits t) (bits p') a b (bits t') (bits d) D (comparable-ratio f k (h .pair)) r' w
+        (h .price-not-negative) (h' .price-not-negative) x g i (rw c at z) call))
 
 -- ---- MINUS ZERO AS PRICE IS ZERO, for a side of any number and other figures of any bits, the factor too: the replies are the same
 zero-divided : (side : ℕ) (s : Bool) (f k t d : Float) → T (positive d) → fromFigures side (zeroOf s ⊘ d) f k t ≡ fromFigures side (zeroOf false) f k t
 zero-divided side s f k t d D =
-    let q = over-positive (zeroOf s) d tt D in
-    let z : IsZero (zeroOf s ⊘ d) =
-    subst IsZero (sym q) (round-is-zero s (0 * den d) (num d * 1) (mul-pos (num-positive d D) (den-pos (zeroOf s))) (zero-mul (den d))) in
+    let z = zero-quotient (zeroOf s) d tt D refl in
     zero-after-tests (eqb side 0) (zeroOf s ⊘ d) f k t (div-fits binary64 (zeroOf s) d) (z .bounded) (z .vanishes)
 
 zeros-alike : (side : ℕ) (f k t d : Float) → fromDiscountedQuote side (zeroOf true) f k t d ≡ fromDiscountedQuote side (zeroOf false) f k t d
@@ -305,23 +229,49 @@ pub discounted-of-minus-zero : (side : ℕ) (f k t d : Float)
 unfolding impliedBlackVolatilityDiscounted ofBits
 discounted-of-minus-zero side f k t d = ap (reply t) (zeros-alike side f k t d)
 
--- ---- the call 0 0.5 100 120 1 0.5 and the put 1 2 480 400 1 0.5 agree: the hypotheses are met
-abbrev halfBits : ℕ
-halfBits = 0x3FE0_0000_0000_0000
+-- ---- calls and puts that agree: the hypotheses are met
 
-abbrev twoBits : ℕ
-twoBits = 0x4000_0000_0000_0000
+-- the call 0 1.91 100 120 1 1.9 and the put 1 7.640000000000001 480 400 1 1.9: the divided prices are exactly 4 times each other, and the prices are not
+abbrev callDiscounted : ℕ
+callDiscounted = 0x3FFE_8F5C_28F5_C28F
 
-pub discounted-call-and-put-agree : discountedAtBits 1 twoBits putForward putStrike timeOne halfBits
-    ≡ discountedAtBits 0 halfBits callForward callStrike timeOne halfBits
+abbrev putDiscounted : ℕ
+putDiscounted = 0x401E_8F5C_28F5_C290
+
+abbrev factorBits : ℕ
+factorBits = 0x3FFE_6666_6666_6666
+
+pub prices-not-scaled : Exactly (pos 1) (bits callDiscounted) (bits putDiscounted) → ⊥
+unfolding ofBits
+prices-not-scaled e = absurd (eq→eqb (e .fraction))
+
+pub discounted-call-and-put-agree : discountedAtBits 1 putDiscounted putForward putStrike timeOne factorBits
+    ≡ discountedAtBits 0 callDiscounted callForward callStrike timeOne factorBits
 unfolding div lt le eq ofBits
 discounted-call-and-put-agree =
-    discounted-agree (pos 1) halfBits callForward callStrike timeOne halfBits twoBits putForward putStrike timeOne halfBits (inr (tt, tt, tt, tt)) tt
-    (comparable _ _ _ tt tt (comparable-call .pair)) (comparable _ _ _ tt tt (comparable-put .pair))
-    (four-times (bits halfBits ⊘ bits halfBits) (bits twoBits ⊘ bits halfBits) tt tt refl refl) .other-side
+    discounted-agree (pos 1) callDiscounted callForward callStrike timeOne factorBits putDiscounted putForward putStrike timeOne factorBits
+    (inr (tt, tt, tt, tt)) tt (comparable _ _ _ tt tt (comparable-call .pair)) (comparable _ _ _ tt tt (comparable-put .pair))
+    (four-times (bits callDiscounted ⊘ bits factorBits) (bits putDiscounted ⊘ bits factorBits) tt tt refl refl) .other-side
     (four-times (bits callStrike) (bits putForward) tt tt refl refl)
     (four-times (bits callForward) (bits putStrike) tt tt refl refl)
     .0
+
+-- the calls 0 4 480 400 1 and 0 1 120 100 1 with the factor 2 ^ -1023: n is -1, and the first divided price is infinite
+abbrev leastFactor : ℕ
+leastFactor = 0x0008_0000_0000_0000
+
+four-down : (x y : Float) → T (finite x) → T (finite y) → num y * den x * 4 ≡ num x * den y * 1 → isSignMinus y ≡ isSignMinus x → Exactly (negsuc 0) x y
+four-down x y a b e s = record { finite-x = a; finite-y = b; fraction = e; signs = inr s }
+
+pub overflowing-calls-agree : discountedAtBits 0 callPrice callStrike callForward timeOne leastFactor
+    ≡ discountedAtBits 0 putPrice putForward putStrike timeOne leastFactor
+unfolding div lt le eq ofBits
+overflowing-calls-agree =
+    scaled-agree (negsuc 0) putPrice putForward putStrike timeOne leastFactor callPrice callStrike callForward timeOne leastFactor
+    (inr (tt, tt, tt, tt)) tt comparable-put (comparable _ _ _ tt tt (comparable-pair _ _ tt tt tt tt (lit≤ tt) (lit≤ tt)))
+    (four-down (bits putPrice) (bits callPrice) tt tt refl refl) (inl (tt, tt)) .same-side 0
+    (four-down (bits putForward) (bits callStrike) tt tt refl refl)
+    (four-down (bits putStrike) (bits callForward) tt tt refl refl)
 
 -- ---- why both quotients are above 2 ^ -1022, and not at least: (2 ^ 53 - 1) * 2 ^ -1075 rounds to 2 ^ -1022, and 4 times it is a value. Two calls at time
 -- zero meet every other term of `scaled-agree`; the first has the intrinsic value as its divided price, and the second has not.

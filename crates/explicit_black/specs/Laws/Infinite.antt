@@ -49,7 +49,7 @@ use Rattle.explicit_black.specs.Guards.{survivalThreshold, bMaxOf}
 use Rattle.explicit_black.specs.Infinite.{AtBound, AtBMax, AtBoundOrBMax, alikeFrom}
 use Rattle.explicit_black.specs.Laws.Tests.{from-price-is}
 use Rattle.explicit_black.specs.Laws.Quote.{Domain, passed, domain-passes, time-positive}
-use Rattle.explicit_black.specs.Laws.Discount.{divided-answer}
+use Rattle.explicit_black.specs.Laws.Discount.{DiscountedDomain, divided-domain, divided-reply, divided-answer}
 use Rattle.explicit_black.specs.Laws.ZeroPrice.{or-right}
 use Rattle.explicit_black.specs.Laws.Roots.{finitePositive-positive, quantile-fits, from-survival-fits}
 use Rattle.explicit_black.specs.Laws.Guards.{NotTaken, quotient-not-taken, b-max-small, b-max-nan, not-over}
@@ -408,6 +408,20 @@ at-b-max side p f k t D F z l m e =
     let v = normalisedTimeValue p d r in
     let q : T (finite v) = equal-finite v (bMaxOf x) (b-max-small x (number-of x v e) .is-finite) e in
     rw (domain-passes side p f k t D, from-price-is p d b r x t, z, l, at-b-max-normalised x v q m e, infinity-over-root t D F z) (rw z)
+
+-- ---- and so are a divided price that is its bound, and one below it whose normalised time value is b_max
+module _ (side : ℕ) (p f k t d : Float) (h : DiscountedDomain side p f k t d) (q : isFinite (p ⊘ d) ≡ true) (F : T (fits binary64 t))
+    (z : eq t plusZero ≡ false) where
+  D : Domain side (p ⊘ d) f k t
+  D = divided-domain side p f k t d h q
+
+  pub discounted-at-bound : AtBound side (p ⊘ d) f k → impliedBlackVolatilityDiscounted side p f k t d ≡ answer infinity infinity 0
+  discounted-at-bound e = divided-reply side p f k t d h q ∙ at-bound side (p ⊘ d) f k t D F z e
+
+  pub discounted-at-b-max : le (priceBound side f k) (p ⊘ d) ≡ false
+      → le (normalisedTimeValue (p ⊘ d) (intrinsicValue side f k) (sqrt f ⊗ sqrt k)) minPositive ≡ false → AtBMax side (p ⊘ d) f k
+      → impliedBlackVolatilityDiscounted side p f k t d ≡ answer infinity infinity 0
+  discounted-at-b-max l m e = divided-reply side p f k t d h q ∙ at-b-max side (p ⊘ d) f k t D F z l m e
 
 -- ---- A PRICE BELOW ITS BOUND may be answered so too: one unit of the last place below 1.37, which is forward and strike
 pub below-its-bound : impliedBlackVolatilityInput 0 (bits 0x3FF5_EB85_1EB8_51EB) (bits 0x3FF5_EB85_1EB8_51EC) (bits 0x3FF5_EB85_1EB8_51EC) one

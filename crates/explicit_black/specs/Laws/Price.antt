@@ -41,6 +41,16 @@ price-from-times k false true v i v' i' F G hv hi p = add-times binary64 k v i v
 price-from-times k false false v i v' i' F G hv hi p = hv
 
 -- ---- forward and strike scaled by 2 ^ (n + n)
+module _ (n : ℕ) (f k f' k' : Float) (h : BoundedRatio f k) (h' : BoundedRatio f' k') (hf : Times (n + n) f f') (hk : Times (n + n) k k') where
+  pub intrinsic-times : (side : ℕ) → Times (n + n) (intrinsicValue side f k) (intrinsicValue side f' k')
+  intrinsic-times side = go (eqb side 0)
+    where
+      go : (call : Bool) → Times (n + n) (cond call (f ⊖ k) (k ⊖ f)) (cond call (f' ⊖ k') (k' ⊖ f'))
+      go true =
+          sub-times binary64 (n + n) f k f' k' (h .forward .held) (h .strike .held) hf hk (difference-finite f' k' (h' .forward) (h' .strike))
+      go false =
+          sub-times binary64 (n + n) k f k' f' (h .strike .held) (h .forward .held) hk hf (difference-finite k' f' (h' .strike) (h' .forward))
+
 module _ (n : ℕ) (f k f' k' s : Float) (h : BoundedRatio f k) (h' : BoundedRatio f' k') (hf : Times (n + n) f f') (hk : Times (n + n) k k') where
   value-times : BothAboveOrZero (timeValue f k s) (timeValue f' k' s) → Times (n + n) (timeValue f k s) (timeValue f' k' s)
   unfolding timeValue
@@ -58,22 +68,13 @@ module _ (n : ℕ) (f k f' k' s : Float) (h : BoundedRatio f k) (h' : BoundedRat
       go (inl (l, l')) = inl l
       go (inr z) = inr z
 
-  intrinsic-times : (side : ℕ) → Times (n + n) (intrinsicValue side f k) (intrinsicValue side f' k')
-  intrinsic-times side = go (eqb side 0)
-    where
-      go : (call : Bool) → Times (n + n) (cond call (f ⊖ k) (k ⊖ f)) (cond call (f' ⊖ k') (k' ⊖ f'))
-      go true =
-          sub-times binary64 (n + n) f k f' k' (h .forward .held) (h .strike .held) hf hk (difference-finite f' k' (h' .forward) (h' .strike))
-      go false =
-          sub-times binary64 (n + n) k f k' f' (h .strike .held) (h .forward .held) hk hf (difference-finite k' f' (h' .strike) (h' .forward))
-
   price-times : (side : ℕ) → BothAboveOrZero (timeValue f k s) (timeValue f' k' s) → T (finite (priceOf side f' k' s))
       → Times (n + n) (priceOf side f k s) (priceOf side f' k' s)
   unfolding priceOf
   price-times side q p =
       let i = intrinsicValue side f k in
       let i' = intrinsicValue side f' k' in
-      let scaled = intrinsic-times side in
+      let scaled = intrinsic-times n f k f' k' h h' hf hk side in
       let same : lt plusZero i' ≡ lt plusZero i = lt-times (n + n) plusZero i plusZero i' (times-zero (n + n)) scaled in
       rw same
       (price-from-times (n + n) (eq s plusZero) (lt plusZero i) (timeValue f k s) i (timeValue f' k' s) i' value-fits (intrinsic-fits (eqb side 0))

@@ -90,12 +90,12 @@ refusal-passed side v f k t e =
     go (suc n) b e = absurd (false≢true (rw (eqb·suc-zero n, eqb·suc-zero n) at e))
 
 -- the intrinsic value
-difference-finite : (x y : Float) → PositiveValue x → PositiveValue y → T (finite (x ⊖ y))
+pub difference-finite : (x y : Float) → PositiveValue x → PositiveValue y → T (finite (x ⊖ y))
 difference-finite x y o q =
     sub-finite binary64 x y (o .held) (q .held) (positive-finite x (o .above)) (positive-finite y (q .above))
     (positive-sign x (o .above)) (positive-sign y (q .above))
 
-pub intrinsic-finite : (side : ℕ) (f k : Float) → PositiveValue f → PositiveValue k → T (finite (intrinsicValue side f k))
+intrinsic-finite : (side : ℕ) (f k : Float) → PositiveValue f → PositiveValue k → T (finite (intrinsicValue side f k))
 intrinsic-finite side f k o q = in-both (λ (z : Float). T (finite z)) (eqb side 0) (difference-finite f k o q) (difference-finite k f q o)
 
 module _ (side : ℕ) (v f k t : Float) (F : T (fits binary64 f)) (K : T (fits binary64 k)) (M : T (fits binary64 t)) (h : Domain side v f k t)

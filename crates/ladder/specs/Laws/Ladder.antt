@@ -7,8 +7,7 @@ use Prim.Native.Nat.{ℕ, zero, suc, _≤_, _<_}
 use native.Mathlib.Nat.{le-refl}
 use native.Mathlib.Omega.{arith}
 use lib.IntN.{ℤ}
-use lib.Dec.{T}
-use lib.Ieee.{Float, binary64, fits}
+use lib.Ieee.{Float}
 use lib.ListN.{length, getD, length-map, List·getD-map}
 use lib.Seq.{take-all}
 use Rattle.arithmetic.specs.Operations.{bits, plusZero, one}
@@ -20,7 +19,7 @@ use Rattle.explicit_black.specs.Quote.{replyOf, impliedBlackVolatilityInput}
 use Rattle.explicit_black.specs.Discount.{impliedBlackVolatilityDiscounted}
 use Rattle.explicit_black.specs.Demand.{compared, Exactly, ComparableFigures, ComparableTimes}
 use Rattle.explicit_black.specs.Laws.Quote.{compared-reply, time-value-refused, first-refusal-le, input-facts}
-use Rattle.explicit_black.specs.Laws.Discount.{factor-one}
+use Rattle.explicit_black.specs.Laws.Discount.{factor-one-at-bits}
 use Rattle.explicit_black.specs.Laws.Tests.{bound-tests-refused}
 use Rattle.explicit_black.specs.Laws.Demand.{inputAtBits, same-side, other-side}
 use Rattle.ladder.specs.Ladder.{totalOf, volatilityOf, countOf, numberOf, takesRoot, replies, trues, rootPlaces, strikeRoots}
@@ -139,16 +138,26 @@ module _ (side : ℕ) (f t : Float) (ks ps ts vs : List Float) (cs rs : List ℕ
           ≡ g (impliedBlackVolatilityInput side (getD ps i plusZero) f (getD ks i plusZero) t)
       value g d = List·getD-map g (replies side f t ks ps) i d ∙ ap g (reply-at side f t ks ps prices-equal i h plusZero plusZero d)
 
-  -- and so its quote with factor 1
-  pub each-place-factor-one : (i : ℕ) → i < length ks → T (fits binary64 (getD ps i plusZero))
-      → Shows solved-ladder i (impliedBlackVolatilityDiscounted side (getD ps i plusZero) f (getD ks i plusZero) t one)
-  each-place-factor-one i h F = rw (factor-one side (getD ps i plusZero) f (getD ks i plusZero) t F) (each-place i h)
-
   pub roots-few : strikeRoots side f t ks ps ≤ length ks
   roots-few =
       let n = root-places-length side f t ks ps prices-equal in
       subst (λ (bs : List Bool). trues bs ≤ length ks) (take-all (length ks) (rootPlaces side f t ks ps) (rw n (le-refl (length ks))))
       (trues-few (rootPlaces side f t ks ps) (length ks))
+
+-- ---- for figures of any bits: each place is its quote by itself, and so its quote with factor 1
+place-at-bits : (c : Inputs) → refusalOf c ≡ 0 → (i : ℕ) → i < length (c .strikes)
+    → Shows (handedBack c) i (impliedBlackVolatilityInput (c .side) (bits (priceAt c i)) (bits (c .forward)) (bits (strikeAt c i)) (bits (c .time)))
+place-at-bits c e i h =
+    let ks = map bits (c .strikes) in
+    let ps = map bits (c .prices) in
+    let accepts = rw (← length-map (c .strikes) bits, ← length-map (c .prices) bits) at e in
+    let within = subst (λ (n : ℕ). i < n) (sym (length-map (c .strikes) bits)) h in
+    rw (← List·getD-map bits (c .prices) i 0, ← List·getD-map bits (c .strikes) i 0)
+    (each-place (c .side) (bits (c .forward)) (bits (c .time)) ks ps (c .totals) (c .volatilities) (c .counts) (c .refusals) accepts i within)
+
+pub each-place-factor-one : (c : Inputs) → refusalOf c ≡ 0 → (i : ℕ) → i < length (c .strikes) → Shows (handedBack c) i
+    (impliedBlackVolatilityDiscounted (c .side) (bits (priceAt c i)) (bits (c .forward)) (bits (strikeAt c i)) (bits (c .time)) one)
+each-place-factor-one c e i h = rw (factor-one-at-bits (c .side) (priceAt c i) (c .forward) (strikeAt c i) (c .time)) (place-at-bits c e i h)
 
 -- ---- DEMAND 3, PLACE BY PLACE
 
@@ -177,13 +186,7 @@ quoteAt c i = inputAtBits (c .side) (priceAt c i) (c .forward) (strikeAt c i) (c
 
 at-place : (c : Inputs) → refusalOf c ≡ 0 → (i : ℕ) → i < length (c .strikes)
     → comparedAt (handedBack c) i ≡ shown (quoteAt c i)
-at-place c e i h =
-    let ks = map bits (c .strikes) in
-    let ps = map bits (c .prices) in
-    let accepts = rw (← length-map (c .strikes) bits, ← length-map (c .prices) bits) at e in
-    let within = subst (λ (n : ℕ). i < n) (sym (length-map (c .strikes) bits)) h in
-    place-shows _ i _ (each-place (c .side) (bits (c .forward)) (bits (c .time)) ks ps (c .totals) (c .volatilities) (c .counts) (c .refusals) accepts i within)
-    ∙ rw (List·getD-map bits (c .prices) i 0, List·getD-map bits (c .strikes) i 0)
+at-place c e i h = place-shows _ i _ (place-at-bits c e i h)
 
 -- Places i and j of two ladders, of any bits, whose quotes demand 3 compares: the price at j is exactly 4 ^ n times that at i.
 module _ (n : ℤ) (a b : Inputs) (A : refusalOf a ≡ 0) (B : refusalOf b ≡ 0)

@@ -1,6 +1,6 @@
 -- `discount::discounted_refusal` meets its contract: each return by the tests that led there. Assumes nothing.
 use mathlib.Core.Path.{_≡_, sym, ap, _∙_}
-use mathlib.Core.Bool.{true, cond, _||_}
+use mathlib.Core.Bool.{Bool, true, cond, _||_}
 use Prim.Native.Nat.{ℕ}
 use lib.Dec.{eqb}
 use lib.Ieee.{lt}
@@ -37,6 +37,13 @@ late c =
 passed : (c : tie.Else3) → eqb (c .before .first-refusal .result) 0 ≡ true
 passed c = eq-eqb (c .before .first-refusal .result) 0 (omega (arith, c .if3 .left))
 
+-- so that test 15 is left
+last : (c : tie.Else3) →
+    let at-finite = c .before .before in
+    let s = at-finite .before .before in
+    number s ≡ cond (lt plusZero (s .args .factor)) 0 15
+last c = rw (late (c .before), passed c)
+
 returns : tie.Need-returns
 returns c = rw (early (c .before), no-side _ (c .if2 .taken))
 
@@ -47,10 +54,10 @@ returns-3 : tie.Need-returns-3
 returns-3 c = rw (late (c .before), ne-eqb (c .before .first-refusal .result) 0 (λ e. c .if3 .taken (omega arith)))
 
 returns-4 : tie.Need-returns-4
-returns-4 c = rw (late (c .before .before), passed (c .before), c .if4 .taken)
+returns-4 c = sym (last (c .before) ∙ ap (λ (b : Bool). cond b 0 15) (c .if4 .taken))
 
 returns-5 : tie.Need-returns-5
-returns-5 c = rw (late (c .before .before), passed (c .before), c .if4 .left)
+returns-5 c = sym (last (c .before) ∙ ap (λ (b : Bool). cond b 0 15) (c .if4 .left))
 
 pub discounted-refusal-spec : {M : Type 1} → statement M
 discounted-refusal-spec = tie.close (tie.spec (λ c κs. tt) returns returns-2 (λ c κs. tt) returns-3 returns-4 returns-5)

@@ -19,7 +19,7 @@ const WORDS: usize = 4096;
 pub fn run(which: &str) {
     match which {
         "ours" => counted_ours(&timing::desk(QUOTES)),
-        "discounted" => counted_discounted(&timing::discounted(QUOTES)),
+        "discounted" => counted_ours(&timing::discounted(QUOTES)),
         "rust" => counted_rust(&timing::desk(QUOTES)),
         "platform" => counted_platform(&timing::desk(QUOTES)),
         "window" => counted_window(&timing::desk(QUOTES)),
@@ -31,12 +31,6 @@ pub fn run(which: &str) {
 #[inline(never)]
 #[unsafe(no_mangle)]
 extern "C" fn counted_ours(list: &Vec<Quote>) {
-    list.iter().for_each(|&q| timing::ours(q));
-}
-
-#[inline(never)]
-#[unsafe(no_mangle)]
-extern "C" fn counted_discounted(list: &Vec<Quote>) {
     list.iter().for_each(|&q| timing::ours(q));
 }
 
@@ -73,10 +67,11 @@ extern "C" fn counted_quotes(list: &Vec<Ladder>, lent: &mut Lent) {
 
 /// Instructions of a run, by callgrind on this program, over so many; none where valgrind is not there.
 fn instructions(which: &str, over: usize) -> Option<f64> {
+    let function = if which == "discounted" { "ours" } else { which };
     let program = std::env::current_exe().ok()?;
     let output = Command::new("valgrind")
         .args(["--tool=callgrind", "--callgrind-out-file=/dev/null"])
-        .arg(format!("--toggle-collect=counted_{which}"))
+        .arg(format!("--toggle-collect=counted_{function}"))
         .arg(program)
         .args(["--run", which])
         .output()

@@ -162,7 +162,7 @@ fn about_quotient(rng: &mut Rng) -> Quote {
     discounted(side, price, forward, strike, time, factor)
 }
 
-/// Where a figure of a quote stands; a side's fault is its number.
+/// With x in one place: the side is 0, and the figures follow as in a sheet.
 fn placed(mut q: Quote, place: usize, x: f64) -> Quote {
     match place {
         0 => q.side = x as u32,
@@ -194,14 +194,14 @@ fn faulty(rng: &mut Rng) -> Quote {
     q
 }
 
-/// Any bits in every figure; a price and a factor that are finite and above 0 in half of them.
+/// Any bits in every figure; the factor is finite and above 0 in half of them.
 fn any_factor(rng: &mut Rng) -> Quote {
     let q = bits(rng);
     let factor = if rng.below(2) == 0 { rng.finite().abs() } else { rng.any() };
     if rng.below(4) > 0 {
         return Quote { factor, ..q };
     }
-    // A quotient that is inside its bound.
+    // The quotient is mostly inside its bound.
     let least = if q.forward < q.strike { q.forward } else { q.strike };
     Quote { price: least.abs() * rng.unit() * factor, factor, ..q }
 }
@@ -217,8 +217,8 @@ pub fn drawn(kind: usize, rng: &mut Rng) -> Quote {
     }
 }
 
-/// Two quotes that demand 3 says agree: their factors are equal and the divided prices scale exactly. The raw prices do not where another has the
-/// same quotient.
+/// Two quotes that demand 3 says agree: their factors are equal and the divided prices scale exactly. The raw prices do not where one next to it
+/// has the same quotient.
 pub fn factor_pair(rng: &mut Rng, exchanged: bool) -> [Quote; 2] {
     loop {
         let [q, other] = pair(rng, exchanged);

@@ -1140,14 +1140,10 @@ impl Quotes {
             2 => neighbour(rng),
             3 => subnormal(rng),
             4 => bits(rng),
-            5 | 6 => {
-                let [q, other] = pair(rng, self.kind == 6);
-                self.second = Some(other);
-                q
-            }
-            kind @ 7..=11 => drawn(kind - PLAIN_KINDS, rng),
+            7..=11 => drawn(self.kind - PLAIN_KINDS, rng),
             kind => {
-                let [q, other] = factor_pair(rng, kind == 13);
+                let drawn_pair = if kind < PLAIN_KINDS { pair } else { factor_pair };
+                let [q, other] = drawn_pair(rng, kind % PLAIN_KINDS == 6);
                 self.second = Some(other);
                 q
             }

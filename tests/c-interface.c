@@ -4,7 +4,7 @@
                                   words to a window
           c-interface vectors     the interface of `vectors` but for signum, max and min
           c-interface lines       the interface of `sheet`, by quoter_sheet_line
-          c-interface quotes      the same, by quoter_sheet_size and quoter_sheet_quote
+          c-interface quotes      the same, by quoter_sheet_size and quoter_sheet_quote, and each quote by quoter_quote
           c-interface prices      the interface of `prices`
           c-interface ladders     the interface of `ladders`
           c-interface windows     the interface of `windows`
@@ -1034,7 +1034,17 @@ static int lines(const uint8_t *sheet, uint64_t length)
     return 1;
 }
 
-/* Exit status 1 where a quote takes more evaluations than the header says. */
+/* Whether quoter_quote gives the same for the quote whose bytes these are. */
+static int by_quote(const uint8_t *q, uint32_t number, double total, double volatility, uint64_t count)
+{
+    double own_total = UNTOUCHED, own_volatility = UNTOUCHED;
+    uint64_t own_count = 7;
+    uint32_t own = quoter_quote((uint32_t)word(q, 4), figure(q + 4), figure(q + 12), figure(q + 20), figure(q + 28), figure(q + 36), &own_total,
+                                &own_volatility, &own_count);
+    return own == number && bits(own_total) == bits(total) && bits(own_volatility) == bits(volatility) && own_count == count;
+}
+
+/* Exit status 1 where a quote takes more evaluations than the header says, or quoter_quote has another reply. */
 static int quotes(const uint8_t *sheet, uint64_t length)
 {
     uint32_t count = 0, infinite = 0, refusals = 0;
@@ -1047,7 +1057,7 @@ static int quotes(const uint8_t *sheet, uint64_t length)
         double total = UNTOUCHED, volatility = UNTOUCHED;
         uint64_t evaluations = 0;
         uint32_t number = quoter_sheet_quote(sheet, length, i, &total, &volatility, &evaluations);
-        if (evaluations > 2263)
+        if (evaluations > 2263 || !by_quote(sheet + 4 + QUOTE * i, number, total, volatility, evaluations))
             return 1;
         refusals += number != 0;
         infinite += number == 0 && isinf(volatility);

@@ -36,7 +36,7 @@ use Rattle.explicit_black.specs.Price.{AboveOrZero, BothAboveOrZero}
 use Rattle.explicit_black.specs.Demand.{fourUp, fourDown, Exactly, ComparableTimes}
 use Rattle.explicit_black.specs.Laws.Tests.{from-price-is}
 use Rattle.explicit_black.specs.Laws.ZeroPrice.{IsZero, round-is-zero, zero-not-below}
-use Rattle.explicit_black.specs.Laws.Price.{intrinsic-times, times-up, times-down, flipped}
+use Rattle.explicit_black.specs.Laws.Price.{intrinsic-times, one-of, times-up, times-down, turned, flipped}
 use Rattle.explicit_black.specs.Laws.Demand.{times-tested, afterTests, Related, related-times, vanish}
 use Rattle.explicit_black.specs.Laws.Demand.{upward, downward, exactly-up, exactly-down, zero-times, clear-or-zero, ComparableValues, same-figures}
 use Rattle.explicit_black.specs.Laws.Discount.{zero-finite, infinite-figures}
@@ -94,20 +94,16 @@ divided-exactly n p p' d D e h = go n e
     vanishing : (n : ℤ) → T (finite p) → T (finite p') → num p ≡ 0 → num p' ≡ 0 → Exactly n (p ⊘ d) (p' ⊘ d)
     vanishing n P P' z z' = zeros-exactly n _ _ (h .first-finite) (h .second-finite) (zero-quotient p d P D z .vanishes) (zero-quotient p' d P' D z' .vanishes)
 
-    one-above : {A B C : Type 0} → (A × B) ⊎ C → A ⊎ C
-    one-above (inl (a, b)) = inl a
-    one-above (inr c) = inr c
-
     up : (n : ℕ) → T (finite p) → T (finite p') → Related (n + n) p p' → Exactly (pos n) (p ⊘ d) (p' ⊘ d)
     up n P P' (vanish z z') = vanishing (pos n) P P' z z'
     up n P P' (related-times g) =
-        times-up n _ _ (quotient-times (n + n) p p' d g D (h .first-finite) (h .second-finite) (one-above (h .above-or-zero)))
+        times-up n _ _ (quotient-times (n + n) p p' d g D (h .first-finite) (h .second-finite) (one-of (h .above-or-zero)))
 
     down : (n : ℕ) → T (finite p) → T (finite p') → Related (suc n + suc n) p' p → Exactly (negsuc n) (p ⊘ d) (p' ⊘ d)
     down n P P' (vanish z z') = vanishing (negsuc n) P P' z' z
     down n P P' (related-times g) =
         times-down n _ _
-        (quotient-times (suc n + suc n) p' p d g D (h .second-finite) (h .first-finite) (one-above (flipped (p ⊘ d) (p' ⊘ d) h .above-or-zero)))
+        (quotient-times (suc n + suc n) p' p d g D (h .second-finite) (h .first-finite) (one-of (flipped (p ⊘ d) (p' ⊘ d) h .above-or-zero)))
 
     go : (n : ℤ) → Exactly n p p' → Exactly n (p ⊘ d) (p' ⊘ d)
     go (pos n) e = up n (e .finite-x) (e .finite-y) (upward n p p' e)
@@ -272,7 +268,8 @@ module _ (n : ℕ) (p f k t p' f' k' t' d : Float) (D : T (positive d)) (h : Bou
       go false false e e' = infinite-refused call (p' ⊘ d) f' k' t' h' e' l' ∙ later ∙ sym (infinite-refused call (p ⊘ d) f k t h e l)
 
 -- ---- what follows the tests, for prices that are exactly 4 ^ n times each other
-pub divided-values : (p f k d : Float) → T (positive d) → T (finite p) → T (le plusZero p) → T (finite (p ⊘ d)) → BoundedRatio f k → ComparableValues (p ⊘ d) f k
+pub divided-values : (p f k d : Float) → T (positive d) → T (finite p) → T (le plusZero p) → T (finite (p ⊘ d)) → BoundedRatio f k
+    → ComparableValues (p ⊘ d) f k
 divided-values p f k d D P o q h = record { held = div-fits binary64 p d; bounded = q; not-negative = quotient-not-negative p d P D o q; pair = h }
 
 pub scaled-figures : (n : ℤ) (p f k t p' f' k' t' d : Float) → T (positive d) → BoundedRatio f k → BoundedRatio f' k' → ComparableTimes t t' → T (le plusZero p)
@@ -283,15 +280,12 @@ scaled-figures n p f k t p' f' k' t' d D h h' w o o' x g i b call = go n x g i e
     time : eq t' plusZero ≡ eq t plusZero
     time = let (z, u, v) = times-tested t t' w in v .is-zero ∙ sym (u .is-zero)
 
-    turned : AboveOrZero (p ⊘ d) (p' ⊘ d) → AboveOrZero (p' ⊘ d) (p ⊘ d)
-    turned (inl (l, l')) = inl (l', l)
-    turned (inr (z, z')) = inr (z', z)
-
     exact : T (finite (p ⊘ d)) → T (finite (p' ⊘ d)) → afterTests call (p' ⊘ d) f' k' t' ≡ afterTests call (p ⊘ d) f k t
     exact q q' =
         let e = divided-exactly n p p' d D x (record { first-finite = q; second-finite = q'; above-or-zero = b }) in
-        same-figures (p ⊘ d) f k t (p' ⊘ d) f' k' t' (divided-values p f k d D (x .finite-x) o q h) (divided-values p' f' k' d D (x .finite-y) o' q' h') w n call
-        e g i
+        let values = divided-values p f k d D (x .finite-x) o q h in
+        let values' = divided-values p' f' k' d D (x .finite-y) o' q' h' in
+        same-figures (p ⊘ d) f k t (p' ⊘ d) f' k' t' values values' w n call e g i
 
     go : (n : ℤ) → Exactly n p p' → Exactly n f f' → Exactly n k k'
         → (T (finite (p ⊘ d)) → T (finite (p' ⊘ d)) → afterTests call (p' ⊘ d) f' k' t' ≡ afterTests call (p ⊘ d) f k t)
@@ -303,5 +297,6 @@ scaled-figures n p f k t p' f' k' t' d D h h' w o o' x g i b call = go n x g i e
     go (negsuc n) x g i exact =
         let hf = exactly-down n f f' (h' .forward) g in
         let hk = exactly-down n k k' (h' .strike) i in
-        sym (scaled-up-figures (suc n) p' f' k' t' p f k t d D h' h hf hk call (x .finite-y) (x .finite-x) o' (downward n p p' x) (sym time) (turned b)
+        sym (scaled-up-figures (suc n) p' f' k' t' p f k t d D h' h hf hk call (x .finite-y) (x .finite-x) o' (downward n p p' x) (sym time)
+        (turned (p ⊘ d) (p' ⊘ d) b)
         (λ q' q. sym (exact q q')))

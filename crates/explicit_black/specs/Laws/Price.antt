@@ -12,7 +12,7 @@ use lib.Ieee.Fits.{mul-fits, sub-fits}
 use lib.Ieee.Bits.{is-true}
 use lib.Ieee.Scale.{finite}
 use lib.Ieee.Positive.{num, den}
-use Rattle.arithmetic.specs.Operations.{_⊕_, _⊖_, _⊗_, _⊘_, bits, plusZero, two, minPositive}
+use Rattle.arithmetic.specs.Operations.{_⊕_, _⊖_, _⊗_, _⊘_, bits, plusZero, two}
 use Rattle.arithmetic.specs.Sqrt.{sqrt}
 use Rattle.arithmetic.specs.Laws.Numbers.{four-square}
 use Rattle.arithmetic.specs.Laws.Choices.{in-both, never}
@@ -25,7 +25,7 @@ use Rattle.arithmetic.specs.Laws.ScaledProducts.{product-times}
 use Rattle.bs_option_price.specs.BsOptionPrice.{normalisedBlack, negativeAbsLogMoneyness}
 use Rattle.bs_option_price.specs.Laws.Moneyness.{BoundedRatio, log-times}
 use Rattle.explicit_black.specs.Quote.{firstRefusal, intrinsicValue}
-use Rattle.explicit_black.specs.Price.{price, refusal, priceRefusal, timeValue, priceOf, blackPrice, BothAboveOrZero}
+use Rattle.explicit_black.specs.Price.{price, refusal, priceRefusal, timeValue, priceOf, blackPrice, AboveOrZero, BothAboveOrZero}
 use Rattle.explicit_black.specs.Demand.{Exactly, ComparablePair}
 use Rattle.explicit_black.specs.Laws.Demand.{above-plusZero, difference-finite, exactly-up, exactly-down, comparable-ratio}
 
@@ -51,6 +51,10 @@ module _ (n : ℕ) (f k f' k' : Float) (h : BoundedRatio f k) (h' : BoundedRatio
       go false =
           sub-times binary64 (n + n) k f k' f' (h .strike .held) (h .forward .held) hk hf (difference-finite k' f' (h' .strike) (h' .forward))
 
+pub one-of : {P Q R : Type 0} → (P × Q) ⊎ R → P ⊎ R
+one-of (inl (l, l')) = inl l
+one-of (inr z) = inr z
+
 module _ (n : ℕ) (f k f' k' s : Float) (h : BoundedRatio f k) (h' : BoundedRatio f' k') (hf : Times (n + n) f f') (hk : Times (n + n) k k') where
   value-times : BothAboveOrZero (timeValue f k s) (timeValue f' k' s) → Times (n + n) (timeValue f k s) (timeValue f' k' s)
   unfolding timeValue
@@ -62,11 +66,7 @@ module _ (n : ℕ) (f k f' k' s : Float) (h : BoundedRatio f k) (h' : BoundedRat
       let same : timeValue f' k' s ≡ r' ⊗ b = rw (log-times (n + n) f k f' k' h h' hf hk) in
       let roots : Times (n + n) r r' = roots-times n f k f' k' (h .forward) (h .strike) (h' .forward) (h' .strike) hf hk in
       let w : BothAboveOrZero (r ⊗ b) (r' ⊗ b) = subst (BothAboveOrZero (r ⊗ b)) same q in
-      subst (Times (n + n) (r ⊗ b)) (sym same) (product-times (n + n) r r' b roots (w .first-finite) (w .second-finite) (go (w .above-or-zero)))
-    where
-      go : {P Q R : Type 0} → (P × Q) ⊎ R → P ⊎ R
-      go (inl (l, l')) = inl l
-      go (inr z) = inr z
+      subst (Times (n + n) (r ⊗ b)) (sym same) (product-times (n + n) r r' b roots (w .first-finite) (w .second-finite) (one-of (w .above-or-zero)))
 
   price-times : (side : ℕ) → BothAboveOrZero (timeValue f k s) (timeValue f' k' s) → T (finite (priceOf side f' k' s))
       → Times (n + n) (priceOf side f k s) (priceOf side f' k' s)
@@ -130,13 +130,12 @@ tests-alike side v f k t f' k' h h' =
       above-plusZero k' (h' .strike),
     )
 
+pub turned : (v v' : Float) → AboveOrZero v v' → AboveOrZero v' v
+turned v v' (inl (l, l')) = inl (l', l)
+turned v v' (inr (z, z')) = inr (z', z)
+
 pub flipped : (v v' : Float) → BothAboveOrZero v v' → BothAboveOrZero v' v
-flipped v v' q = record { first-finite = q .second-finite; second-finite = q .first-finite; above-or-zero = go (q .above-or-zero) }
-  where
-    go : (T (lt minPositive v) × T (lt minPositive v')) ⊎ (T (eq v plusZero) × T (eq v' plusZero))
-        → (T (lt minPositive v') × T (lt minPositive v)) ⊎ (T (eq v' plusZero) × T (eq v plusZero))
-    go (inl (l, l')) = inl (l', l)
-    go (inr (z, z')) = inr (z', z)
+flipped v v' q = record { first-finite = q .second-finite; second-finite = q .first-finite; above-or-zero = turned v v' (q .above-or-zero) }
 
 -- for values of binary64
 price-exactly : (n : ℤ) (side : ℕ) (f k f' k' s : Float) → BoundedRatio f k → BoundedRatio f' k' → Exactly n f f' → Exactly n k k'

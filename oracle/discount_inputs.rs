@@ -88,8 +88,8 @@ fn at_branch(rng: &mut Rng) -> Quote {
     Quote { price, factor, ..q }
 }
 
-/// A price and a factor, whole numbers of 53 digits, whose quotient is within few parts in 2^107 of the middle between two floats: the product of
-/// factor and middle is a whole number but for `off`. No quotient is a middle itself unless it is subnormal.
+/// A price and a factor, whole numbers of 53 digits, whose quotient is within 2^-102 of itself of the middle between two floats: the product of factor
+/// and middle is 2^54 times the price, less `off`. No quotient is a middle itself unless it is subnormal.
 fn beside_middle(rng: &mut Rng) -> [f64; 2] {
     const MODULUS: u64 = 1 << 54;
     loop {
@@ -162,7 +162,7 @@ fn about_quotient(rng: &mut Rng) -> Quote {
     discounted(side, price, forward, strike, time, factor)
 }
 
-/// With x in one place: the side is 0, and the figures follow as in a sheet.
+/// With x in one place: place 0 is the side, and the figures follow as in a sheet.
 fn placed(mut q: Quote, place: usize, x: f64) -> Quote {
     match place {
         0 => q.side = x as u32,
@@ -217,8 +217,8 @@ pub fn drawn(kind: usize, rng: &mut Rng) -> Quote {
     }
 }
 
-/// Two quotes that demand 3 says agree: their factors are equal and the divided prices scale exactly. The raw prices do not where one next to it
-/// has the same quotient.
+/// Two quotes that demand 3 says agree: their factors are equal and the divided prices scale exactly. For the second price one next to the scaled
+/// price is taken where its quotient is the same.
 pub fn factor_pair(rng: &mut Rng, exchanged: bool) -> [Quote; 2] {
     loop {
         let [q, other] = pair(rng, exchanged);
@@ -237,7 +237,7 @@ pub fn factor_pair(rng: &mut Rng, exchanged: bool) -> [Quote; 2] {
     }
 }
 
-/// The binary exponent of a normal number above 0.
+/// The biased exponent of a normal number above 0.
 fn exponent(x: f64) -> i64 {
     (x.to_bits() >> 52) as i64
 }

@@ -1071,8 +1071,8 @@ pub fn known() -> Vec<Quote> {
     [examples(), doubled().to_vec(), vec![longest()], minus_zeros(), refused()].concat()
 }
 
-/// How many quotes of the kept sheet are not discounted; they come first. With so many, a part that the program prints ends where the next line lacks
-/// one byte of room.
+/// How many quotes of the kept sheet are of kinds that are not discounted; they come first. With so many, a part that the program prints ends where
+/// the next line lacks one byte of room.
 const UNDISCOUNTED_KEPT: usize = 710;
 
 /// The quotes of the sheet that the repository keeps: 1,000.

@@ -7,7 +7,7 @@ use crate::inputs::{
 };
 use crate::standin::{exp, ln, ln_1p};
 
-/// What is keyed for a price: a sheet's quote with the volatility in the price's place.
+/// What is keyed for a price: a sheet's quote up to its time, with the volatility in the price's place.
 #[derive(Clone, Copy, Debug)]
 pub struct Keyed {
     pub side: u32,

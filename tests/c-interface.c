@@ -772,7 +772,7 @@ static void command(const char *what, struct host *h, uint32_t w)
     writes(what, h, 0, w, 0, right);
 }
 
-/* A quote's nine words but for its factor, which stand in a window as in a sheet; in that order, or against it. */
+/* A quote's words but for its factor's, nine, which stand in a window as in a sheet; in that order, or against it. */
 static void set(const char *what, struct host *h, const struct listed *q, int against)
 {
     uint8_t sheet[4 + QUOTE];

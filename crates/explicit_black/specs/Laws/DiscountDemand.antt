@@ -1,6 +1,6 @@
 -- Demand 3 for quotes with discount factors (REQUIREMENTS 14.7): a quote, and one whose factor is equal and whose divided price, forward and strike are
 -- exactly 4 ^ n times its own, on the same side or exchanged, have one total volatility or refusal number, and one count. So have quotes whose prices
--- themselves are exactly 4 ^ n times each other, where the divided prices are above 2 ^ -1022 or 0. And minus zero as price. Assumes nothing.
+-- themselves are exactly 4 ^ n times each other, where both divided prices are above 2 ^ -1022, or both are 0. And minus zero as price. Assumes nothing.
 use mathlib.Core.Path.{_≡_, refl, sym, ap, _∙_, subst}
 use mathlib.Core.Logic.{_⊎_, inl, inr}
 use Prim.Native.Nat.{ℕ, zero, suc, _*_, _<_}
@@ -257,17 +257,17 @@ discounted-call-and-put-agree =
     .0
 
 -- the calls 0 4 480 400 1 and 0 1 120 100 1 with the factor 2 ^ -1023: n is -1, and the first divided price is infinite
-abbrev leastFactor : ℕ
-leastFactor = 0x0008_0000_0000_0000
+abbrev smallFactor : ℕ
+smallFactor = 0x0008_0000_0000_0000
 
 four-down : (x y : Float) → T (finite x) → T (finite y) → num y * den x * 4 ≡ num x * den y * 1 → isSignMinus y ≡ isSignMinus x → Exactly (negsuc 0) x y
 four-down x y a b e s = record { finite-x = a; finite-y = b; fraction = e; signs = inr s }
 
-pub overflowing-calls-agree : discountedAtBits 0 callPrice callStrike callForward timeOne leastFactor
-    ≡ discountedAtBits 0 putPrice putForward putStrike timeOne leastFactor
+pub overflowing-calls-agree : discountedAtBits 0 callPrice callStrike callForward timeOne smallFactor
+    ≡ discountedAtBits 0 putPrice putForward putStrike timeOne smallFactor
 unfolding div lt le eq ofBits
 overflowing-calls-agree =
-    scaled-agree (negsuc 0) putPrice putForward putStrike timeOne leastFactor callPrice callStrike callForward timeOne leastFactor
+    scaled-agree (negsuc 0) putPrice putForward putStrike timeOne smallFactor callPrice callStrike callForward timeOne smallFactor
     (inr (tt, tt, tt, tt)) tt comparable-put (comparable _ _ _ tt tt (comparable-pair _ _ tt tt tt tt (lit≤ tt) (lit≤ tt)))
     (four-down (bits putPrice) (bits callPrice) tt tt refl refl) (inl (tt, tt)) .same-side 0
     (four-down (bits putForward) (bits callStrike) tt tt refl refl)

@@ -184,7 +184,7 @@ a-side zero h = refl
 a-side (suc zero) h = refl
 a-side (suc (suc n)) h = absurd (omega arith)
 
--- ---- of the quote entry
+-- ---- of a quote without a factor
 and-left : (a b : Bool) → (a && b) ≡ true → a ≡ true
 and-left true b e = refl
 and-left false b e = absurd (false≢true e)

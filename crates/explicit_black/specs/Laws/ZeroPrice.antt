@@ -1,4 +1,4 @@
--- A price of -0 is answered as a price of +0 by both entries, whatever the side and the other figures are. Assumes nothing.
+-- A price of -0 is answered as a price of +0 by the two entries of Quote.antt, whatever the side and the other figures are. Assumes nothing.
 use mathlib.Core.Path.{_≡_, refl, sym, ap, _∙_, subst}
 use Prim.Native.Nat.{ℕ, zero, suc, _+_, _-_, _*_, _^_, _<_}
 use native.Mathlib.Nat.{zero-mul, mul-one, add-zero, mul-pos, zero-lt-suc, eq-of-mul-eq-mul-right}

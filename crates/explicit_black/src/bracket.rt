@@ -151,7 +151,13 @@ pub(crate) fn bracket_quantile_from_below(
     loop {
         match inverse_gaussian_cdf(bracket.upper, mu, left) {
             Evaluation::Spent => return Reach::Spent,
-            Evaluation::Value { cdf, pdf: _, rest } => {
+            Evaluation::Value {
+                cdf,
+                sqrt_x: _,
+                a: _,
+                exponential: _,
+                rest,
+            } => {
                 left = rest;
                 match bracket.widened(cdf, probability) {
                     Widening::Reached(b) => return Reach::Found(b, left),
@@ -179,7 +185,13 @@ pub(crate) fn bracket_quantile_from_above(
             Widening::Reached(b) => return Reach::Found(b, left),
             Widening::Wider(b) => match inverse_gaussian_cdf(b.lower, mu, left) {
                 Evaluation::Spent => return Reach::Spent,
-                Evaluation::Value { cdf, pdf: _, rest } => {
+                Evaluation::Value {
+                    cdf,
+                    sqrt_x: _,
+                    a: _,
+                    exponential: _,
+                    rest,
+                } => {
                     left = rest;
                     trial = b.lowered(cdf, probability);
                 }

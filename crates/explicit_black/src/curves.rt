@@ -13,7 +13,7 @@ ghost use mathlib.Core.Path.{_≡_};
 ghost use Prim.Native.Nat.{_-_, _<_};
 ghost use Rattle.explicit_black.specs.Counted.{limited};
 ghost use Rattle.explicit_black.specs.Internal.Contracts.{evaluated};
-ghost use Rattle.explicit_black.specs.Internal.Searches.{pdfFrom, viewEvaluation, viewSurvivalEvaluation};
+ghost use Rattle.explicit_black.specs.Internal.Searches.{pdfFrom, pdfByExponential, viewEvaluation, viewSurvivalEvaluation};
 ghost use Rattle.explicit_black.specs.Curves.{inverseGaussianSurvival, inverseGaussianCdf};
 
 // How many evaluations are still allowed.
@@ -45,10 +45,16 @@ impl Allowance {
     }
 }
 
-// A value of the distribution, with the density at the same point and one evaluation fewer; or spent where none was
-// allowed.
+// A value of the distribution, with what the density at the same point needs, √x, a and exp(-0.5 * a * a), and one
+// evaluation fewer; or spent where none was allowed.
 pub enum Evaluation {
-    Value { cdf: f64, pdf: f64, rest: Allowance },
+    Value {
+        cdf: f64,
+        sqrt_x: f64,
+        a: f64,
+        exponential: f64,
+        rest: Allowance,
+    },
     Spent,
 }
 
@@ -85,7 +91,7 @@ pub fn inverse_gaussian_survival(x: f64, mu: f64, allowed: Allowance) -> Surviva
 }
 
 pub fn inverse_gaussian_cdf(x: f64, mu: f64, allowed: Allowance) -> Evaluation
-    ensures { λ r. ⌜ viewEvaluation r ≡ limited (allowed .left) (evaluated inverseGaussianCdf x mu) ⌝ }
+    ensures { λ r. ⌜ viewEvaluation x r ≡ limited (allowed .left) (evaluated inverseGaussianCdf x mu) ⌝ }
 {
     if allowed.left == 0 {
         return Evaluation::Spent;
@@ -99,7 +105,9 @@ pub fn inverse_gaussian_cdf(x: f64, mu: f64, allowed: Allowance) -> Evaluation
     let cdf = norm_cdf(a) + 0.5 * exponential * erfcx_cody(reflected * FRAC_1_SQRT_2);
     Evaluation::Value {
         cdf: cdf,
-        pdf: norm_pdf_of_square(a, exponential) / (x * sqrt_x),
+        sqrt_x: sqrt_x,
+        a: a,
+        exponential: exponential,
         rest: allowed.lowered(),
     }
 }
@@ -109,4 +117,11 @@ pub fn inverse_gaussian_pdf(x: f64, sqrt_x: f64, a: f64) -> f64
     ensures { λ r. ⌜ r ≡ pdfFrom x «sqrt_x» a ⌝ }
 {
     norm_pdf(a * a) / (x * sqrt_x)
+}
+
+// The density at x where also exp(-0.5 * a * a) is at hand.
+pub fn inverse_gaussian_pdf_by_exponential(x: f64, sqrt_x: f64, a: f64, exponential: f64) -> f64
+    ensures { λ r. ⌜ r ≡ pdfByExponential x «sqrt_x» a exponential ⌝ }
+{
+    norm_pdf_of_square(a, exponential) / (x * sqrt_x)
 }

@@ -3,6 +3,7 @@ use crate::counted::Quantile;
 use crate::curves::Allowance;
 use crate::curves::Evaluation;
 use crate::curves::inverse_gaussian_cdf;
+use crate::curves::inverse_gaussian_pdf_by_exponential;
 use crate::initial_guess::inverse_gaussian_quantile_initial_guess;
 use crate::initial_guess::is_finite_positive;
 use arithmetic::basic::abs;
@@ -152,9 +153,21 @@ fn steps(
             Stepped::Again(x, direction) => {
                 match inverse_gaussian_cdf(x * mu, mu, left) {
                     Evaluation::Spent => return Quantile::Spent,
-                    Evaluation::Value { cdf, pdf, rest } => {
+                    Evaluation::Value {
+                        cdf,
+                        sqrt_x,
+                        a,
+                        exponential,
+                        rest,
+                    } => {
                         left = rest;
                         let error = numerator(cdf, probability, log_probability);
+                        let pdf = inverse_gaussian_pdf_by_exponential(
+                            x * mu,
+                            sqrt_x,
+                            a,
+                            exponential,
+                        );
                         next = nrstep(mu * pdf, error).later(x, direction, mu);
                     }
                 }
@@ -171,8 +184,15 @@ pub fn inverse_gaussian_quantile_actuar(probability: f64, mu: f64, allowed: Allo
     let x = initial_x(probability, log_probability, mu);
     match inverse_gaussian_cdf(x * mu, mu, allowed) {
         Evaluation::Spent => Quantile::Spent,
-        Evaluation::Value { cdf, pdf, rest } => {
+        Evaluation::Value {
+            cdf,
+            sqrt_x,
+            a,
+            exponential,
+            rest,
+        } => {
             let error = numerator(cdf, probability, log_probability);
+            let pdf = inverse_gaussian_pdf_by_exponential(x * mu, sqrt_x, a, exponential);
             let begin = nrstep(mu * pdf, error).first(x, mu);
             steps(begin, probability, log_probability, mu, rest)
         }

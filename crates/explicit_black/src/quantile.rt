@@ -10,6 +10,7 @@ use crate::counted::Reach;
 use crate::curves::Allowance;
 use crate::curves::Evaluation;
 use crate::curves::inverse_gaussian_cdf;
+use crate::curves::inverse_gaussian_pdf_by_exponential;
 use crate::initial_guess::inverse_gaussian_quantile_initial_guess;
 use crate::initial_guess::is_finite_positive;
 use crate::initial_guess::starting_point;
@@ -175,8 +176,15 @@ fn iterations(start: Bracket, guess: f64, mu: f64, probability: f64, allowed: Al
     for _ in 0u32..64 {
         match inverse_gaussian_cdf(x, mu, left) {
             Evaluation::Spent => return Quantile::Spent,
-            Evaluation::Value { cdf, pdf, rest } => {
+            Evaluation::Value {
+                cdf,
+                sqrt_x,
+                a,
+                exponential,
+                rest,
+            } => {
                 left = rest;
+                let pdf = inverse_gaussian_pdf_by_exponential(x, sqrt_x, a, exponential);
                 match bracket.iteration(x, cdf, pdf, probability) {
                     Iteration::Root(root) => return Quantile::Root(root, left),
                     Iteration::Again(b, next) => {
@@ -200,7 +208,14 @@ pub(crate) fn inverse_gaussian_quantile_bracketed(
     ensures { λ r. ⌜ viewQuantile r ≡ limited (allowed .left) (someOf (inverseGaussianQuantileBracketed probability mu)) ⌝ }
 {
     let x = starting_point(inverse_gaussian_quantile_initial_guess(probability, mu), mu);
-    let Evaluation::Value { cdf, pdf: _, rest } = inverse_gaussian_cdf(x, mu, allowed) else {
+    let Evaluation::Value {
+        cdf,
+        sqrt_x: _,
+        a: _,
+        exponential: _,
+        rest,
+    } = inverse_gaussian_cdf(x, mu, allowed)
+    else {
         return Quantile::Spent;
     };
     match bracket_at(x, cdf, mu, probability, rest) {

@@ -145,7 +145,9 @@ pub extern "C" fn quoter_inverse_gaussian_cdf(x: f64, mu: f64) -> f64
     match explicit_black::curves::inverse_gaussian_cdf(x, mu, Allowance::new(1)) {
         Evaluation::Value {
             cdf,
-            pdf: _,
+            sqrt_x: _,
+            a: _,
+            exponential: _,
             rest: _,
         } => cdf,
         // never: the one evaluation that it makes is allowed

@@ -87,7 +87,9 @@ fn cdf_of(evaluation: Evaluation) -> Outcome {
     match evaluation {
         Evaluation::Value {
             cdf,
-            pdf: _,
+            sqrt_x: _,
+            a: _,
+            exponential: _,
             rest: _,
         } => Outcome::Number(cdf),
         Evaluation::Spent => Outcome::Unknown,

@@ -3,6 +3,7 @@
 use lib.Ieee.{Float}
 use Rattle.arithmetic.specs.Operations.{_⊗_, _⊘_}
 use Rattle.special_function.specs.NormalDistribution.{normPdf}
+use Rattle.special_function.specs.Internal.SharedExponential.{normPdfOfSquare}
 use Rattle.explicit_black.specs.declared.bracket.Bracket.{Bracket}
 use Rattle.explicit_black.specs.declared.bracket.Widening.{Widening}
 use Rattle.explicit_black.specs.declared.bracket.Widening.the-variants.{Reached, Wider}
@@ -27,10 +28,14 @@ use Rattle.explicit_black.specs.Loops.{Next, go, stop}
 
 -- ---- what an evaluation or a search gives, with how many evaluations are left
 
--- the distribution and the density at a point
-abbrev pub viewEvaluation : Evaluation → Metered Sample
-viewEvaluation (Value v pdf n) = have (sample v pdf) (n .left)
-viewEvaluation NoValue = spent
+-- the density at x, from √x, a and the exponential of -a² / 2
+abbrev pub pdfByExponential : Float → Float → Float → Float → Float
+pdfByExponential x sqrtX a e = normPdfOfSquare a e ⊘ (x ⊗ sqrtX)
+
+-- the distribution and the density at x
+abbrev pub viewEvaluation : Float → Evaluation → Metered Sample
+viewEvaluation x (Value v sqrtX a e n) = have (sample v (pdfByExponential x sqrtX a e)) (n .left)
+viewEvaluation x NoValue = spent
 
 -- the density at x, from √x and a
 abbrev pub pdfFrom : Float → Float → Float → Float

@@ -11,13 +11,13 @@ returns c =
     let has-value = c .before in
     let at-curve = has-value .before .before in
     let allowed = at-curve .before in
-    first-value _ (allowed .new .ensures) (sym (ap viewEvaluation (has-value .cdf .given .1)) ∙ at-curve .inverse-gaussian-cdf .ensures)
+    first-value _ (allowed .new .ensures) (sym (ap (viewEvaluation _) (has-value .cdf .given .1)) ∙ at-curve .inverse-gaussian-cdf .ensures)
 
 returns-2 : tie.Need-returns-2
 returns-2 c =
     let at-curve = c .before .before in
     let allowed = at-curve .before in
-    absurd (first-spent _ (allowed .new .ensures) (sym (ap viewEvaluation (c .enum-told .given .1)) ∙ at-curve .inverse-gaussian-cdf .ensures))
+    absurd (first-spent _ (allowed .new .ensures) (sym (ap (viewEvaluation _) (c .enum-told .given .1)) ∙ at-curve .inverse-gaussian-cdf .ensures))
 
 pub quoter-inverse-gaussian-cdf-spec : {M : Type 1} → statement M
 quoter-inverse-gaussian-cdf-spec =

@@ -36,12 +36,12 @@ returns-2 c =
     let at-trial = at-cdf .before .before in
     some-spent _ _
     (carried-spent _ (carried-at (at-trial .before .before .loop .inv) (ap viewWidening (at-trial .trial2 .given .1)))
-    (seen viewEvaluation (at-cdf .inverse-gaussian-cdf .ensures) (c .enum-told .given .1)))
+    (seen (viewEvaluation _) (at-cdf .inverse-gaussian-cdf .ensures) (c .enum-told .given .1)))
 
 loop-less : tie.Need-loop-less Inv-loop μ-loop
 loop-less c =
     let at-value = c .before .before in
-    fewer _ (seen viewEvaluation (at-value .before .before .inverse-gaussian-cdf .ensures) (at-value .cdf .given .1))
+    fewer _ (seen (viewEvaluation _) (at-value .before .before .inverse-gaussian-cdf .ensures) (at-value .cdf .given .1))
 
 loop-again : tie.Need-loop-again Inv-loop μ-loop
 loop-again c =
@@ -49,7 +49,7 @@ loop-again c =
     let at-cdf = at-value .before .before in
     let at-trial = at-cdf .before .before in
     turned (carried-at (at-trial .before .before .loop .inv) (ap viewWidening (at-trial .trial2 .given .1)))
-    (told (seen viewEvaluation (at-cdf .inverse-gaussian-cdf .ensures) (at-value .cdf .given .1))) (c .lowered .ensures) .carried
+    (told (seen (viewEvaluation _) (at-cdf .inverse-gaussian-cdf .ensures) (at-value .cdf .given .1))) (c .lowered .ensures) .carried
 
 pub bracket-quantile-from-above-spec : {M : Type 1} → statement M
 bracket-quantile-from-above-spec =

@@ -35,7 +35,7 @@ loop-holds c =
 
 -- how many are allowed after the evaluation
 abbrev rest : tie.After-cdf Inv-loop μ-loop → ℕ
-rest at-value = at-value .cdf .given .0 .1 .1 .0 .left
+rest at-value = at-value .cdf .given .0 .1 .1 .1 .1 .0 .left
 
 -- one turn, from the loop's bracket to what `widened` makes of the value at its upper bound
 turn : (c : tie.After-widened Inv-loop μ-loop) →
@@ -50,13 +50,13 @@ turn c =
     let at-value = c .before .before in
     let at-cdf = at-value .before .before in
     turned (at-cdf .before .loop .inv)
-    (told (seen viewEvaluation (at-cdf .inverse-gaussian-cdf .ensures) (at-value .cdf .given .1)))
+    (told (seen (viewEvaluation _) (at-cdf .inverse-gaussian-cdf .ensures) (at-value .cdf .given .1)))
     (c .widened .ensures)
 
 returns : tie.Need-returns Inv-loop μ-loop
 returns c =
     let at-cdf = c .before .before in
-    let no-value = seen viewEvaluation (at-cdf .inverse-gaussian-cdf .ensures) (c .enum-told .given .1) in
+    let no-value = seen (viewEvaluation _) (at-cdf .inverse-gaussian-cdf .ensures) (c .enum-told .given .1) in
     some-spent _ _ (carried-spent _ (at-cdf .before .loop .inv) no-value)
 
 returns-2 : tie.Need-returns-2 Inv-loop μ-loop

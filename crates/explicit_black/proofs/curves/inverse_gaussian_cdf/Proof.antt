@@ -12,14 +12,13 @@ returns c = tick-none _ _ (c .if1 .taken)
 returns-2 : tie.Need-returns-2
 unfolding inverseGaussianCdf inverseGaussianPdf
 returns-2 c =
-    let at-norm-pdf = c .before in
-    let at-norm-cdf = at-norm-pdf .before .before in
+    let at-erfcx = c .before in
+    let at-norm-cdf = at-erfcx .before in
     let at-recip = at-norm-cdf .before .before in
     let at-sqrt = at-recip .before in
     tick-some _ _ _ (at-sqrt .before .if1 .left)
     (rw (
-      at-norm-pdf .norm-pdf-of-square .ensures,
-      at-norm-pdf .before .erfcx-cody .ensures,
+      at-erfcx .erfcx-cody .ensures,
       at-norm-cdf .norm-cdf .ensures,
       at-norm-cdf .before .exp .ensures,
       at-recip .recip .ensures,
@@ -31,4 +30,4 @@ returns-2 c =
 pub inverse-gaussian-cdf-spec : {M : Type 1} → statement M
 inverse-gaussian-cdf-spec =
     tie.close
-    (tie.spec returns (λ c κs. tt) (λ c κs. tt) (λ c κs. tt) (λ c κs. tt) (λ c κs. tt) (λ c κs. tt) (λ c κs. search needs) returns-2)
+    (tie.spec returns (λ c κs. tt) (λ c κs. tt) (λ c κs. tt) (λ c κs. tt) (λ c κs. tt) (λ c κs. search needs) returns-2)

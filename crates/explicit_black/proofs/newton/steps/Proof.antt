@@ -52,18 +52,20 @@ returns-2 c =
 returns-3 : tie.Need-returns-3 Inv-loop μ-loop
 returns-3 c =
     let at-cdf = c .before .before in
-    let no-value = seen viewEvaluation (at-cdf .inverse-gaussian-cdf .ensures) (c .enum-told2 .given .1) in
+    let no-value = seen (viewEvaluation _) (at-cdf .inverse-gaussian-cdf .ensures) (c .enum-told2 .given .1) in
     left-no-value _ (open-step (at-cdf .before .before)) (omega arith) no-value
 
 loop-again : tie.Need-loop-again Inv-loop μ-loop
 loop-again c =
     let at-nrstep = c .before in
-    let at-numerator = at-nrstep .before in
+    let at-pdf = at-nrstep .before in
+    let at-numerator = at-pdf .before in
     let at-value = at-numerator .before .before in
     let at-cdf = at-value .before .before in (
       stepped _ _ _ (open-step (at-cdf .before .before)) (omega arith)
-          (told (seen viewEvaluation (at-cdf .inverse-gaussian-cdf .ensures) (at-value .cdf .given .1)))
-          (at-numerator .numerator .ensures) (at-nrstep .nrstep .ensures) (c .later .ensures),
+          (told (seen (viewEvaluation _) (at-cdf .inverse-gaussian-cdf .ensures) (at-value .cdf .given .1)))
+          (at-numerator .numerator .ensures) (rw (at-pdf .inverse-gaussian-pdf-by-exponential .ensures) at (at-nrstep .nrstep .ensures))
+          (c .later .ensures),
       omega arith,
     )
 
@@ -74,5 +76,5 @@ pub steps-spec : {M : Type 1} → statement M
 steps-spec =
     tie.close
     (tie.spec Inv-loop μ-loop loop-holds (λ c. search needs) returns (λ c. search needs) returns-2 (λ c. search needs)
-    (λ c κs. tt) (λ c. search needs) returns-3 (λ c. search needs) (λ c κs. tt) (λ c κs. tt) (λ c κs. tt)
+    (λ c κs. tt) (λ c. search needs) returns-3 (λ c. search needs) (λ c κs. tt) (λ c κs. tt) (λ c κs. tt) (λ c κs. tt)
     (λ c. omega arith) (λ c. omega arith) loop-again (λ c κs. tt) returns-4)

@@ -13,7 +13,7 @@ use Rattle.explicit_black.proofs.quantile.inverse_gaussian_quantile_bra
 use Rattle.explicit_black.proofs.quantile.inverse_gaussian_quantile_bracketed.Tie as tie
 
 returns : tie.Need-returns
-returns c = no-guess _ _ _ _ (seen viewEvaluation (c .before .before .inverse-gaussian-cdf .ensures) (c .enum-told .given .1))
+returns c = no-guess _ _ _ _ (seen (viewEvaluation _) (c .before .before .inverse-gaussian-cdf .ensures) (c .enum-told .given .1))
 
 bracket-at-requires : tie.Need-bracket-at-requires
 bracket-at-requires c κs =
@@ -27,13 +27,13 @@ from-value : (c : tie.After-cdf) {q : Metered (Option Float)} →
     let at-cdf = c .before .before in
     let at-start = at-cdf .before in
     let args = at-start .before .before .args in
-    q ≡ limited (c .cdf .given .0 .1 .1 .0 .left) (bracketedFrom (args .probability) (args .mu) (at-start .starting-point .result) (c .cdf .given .0 .0))
+    q ≡ limited (c .cdf .given .0 .1 .1 .1 .1 .0 .left) (bracketedFrom (args .probability) (args .mu) (at-start .starting-point .result) (c .cdf .given .0 .0))
     → q ≡ limited (args .allowed .left) (someOf (inverseGaussianQuantileBracketed (args .probability) (args .mu)))
 from-value c h =
     let at-cdf = c .before .before in
     let at-start = at-cdf .before in
     from-guess _ _ (at-start .before .inverse-gaussian-quantile-initial-guess .ensures) (at-start .starting-point .ensures)
-    (told (seen viewEvaluation (at-cdf .inverse-gaussian-cdf .ensures) (c .cdf .given .1))) h
+    (told (seen (viewEvaluation _) (at-cdf .inverse-gaussian-cdf .ensures) (c .cdf .given .1))) h
 
 returns-2 : tie.Need-returns-2
 returns-2 c =

@@ -34,24 +34,26 @@ loop-holds c = (record { same = refl }, omega arith)
 
 -- one iteration, from the loop's bracket and point to what `iteration` makes of the value there
 turn : (c : tie.After-iteration Inv-loop μ-loop) →
-    let at-value = c .before .before in
+    let at-pdf = c .before in
+    let at-value = at-pdf .before .before in
     let at-cdf = at-value .before .before in
     let at-loop = at-cdf .before .before in
     let args = at-loop .before .args in
     Left (iterationLoop (args .mu) (args .probability)) (64 - (at-loop .loop .counter + 1))
     (whole (args .mu) (args .probability) (args .start) (args .guess) (args .allowed .left))
-    (at-value .cdf .given .0 .1 .1 .0 .left) (viewIteration (c .iteration .result))
+    (at-value .cdf .given .0 .1 .1 .1 .1 .0 .left) (viewIteration (c .iteration .result))
 turn c =
-    let at-value = c .before .before in
+    let at-pdf = c .before in
+    let at-value = at-pdf .before .before in
     let at-cdf = at-value .before .before in
     iterated inverseGaussianCdf iteration (at-cdf .before .before .loop .inv .0) (omega arith)
-    (told (seen viewEvaluation (at-cdf .inverse-gaussian-cdf .ensures) (at-value .cdf .given .1)))
-    refl (c .iteration .ensures)
+    (told (seen (viewEvaluation _) (at-cdf .inverse-gaussian-cdf .ensures) (at-value .cdf .given .1)))
+    (at-pdf .inverse-gaussian-pdf-by-exponential .ensures) (c .iteration .ensures)
 
 returns : tie.Need-returns Inv-loop μ-loop
 returns c =
     let at-cdf = c .before .before in
-    let no-value = seen viewEvaluation (at-cdf .inverse-gaussian-cdf .ensures) (c .enum-told .given .1) in
+    let no-value = seen (viewEvaluation _) (at-cdf .inverse-gaussian-cdf .ensures) (c .enum-told .given .1) in
     some-spent _ _ (left-no-value _ (at-cdf .before .before .loop .inv .0) (omega arith) no-value)
 
 returns-2 : tie.Need-returns-2 Inv-loop μ-loop
@@ -72,6 +74,6 @@ returns-3 c =
 pub iterations-spec : {M : Type 1} → statement M
 iterations-spec =
     tie.close
-    (tie.spec Inv-loop μ-loop loop-holds (λ c κs. tt) (λ c. search needs) returns (λ c. search needs) (λ c κs. tt)
+    (tie.spec Inv-loop μ-loop loop-holds (λ c κs. tt) (λ c. search needs) returns (λ c. search needs) (λ c κs. tt) (λ c κs. tt)
     (λ c. search needs) returns-2 (λ c. search needs) (λ c. omega arith) (λ c. omega arith) loop-again (λ c κs. tt)
     returns-3)

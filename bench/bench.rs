@@ -1,6 +1,7 @@
 //! Our functions and quotes beside the Rust's in one process, and what they take of the machine.
 //! Columns: ns a call of ours, of the Rust with the stand-ins of docs/REQUIREMENTS.md, of the Rust with the platform's exp and ln, and two
-//! ratios. Of ladders: ns a place by a call for the ladder, by a call for each quote, by the Rust, and two ratios.
+//! ratios. Of ladders: ns a place by a call for the ladder, by a call for each quote, by the Rust, and two ratios. Of sheets: ns a quote by a
+//! call for each line of their text, by a call for each quote, by the Rust, and two ratios.
 //!
 //! usage: bench TARGET [PICTURE.svg]     TARGET: the folder with staticlib/libexports.a and bin/sheet
 //!        bench --run ours|rust|platform      desk quotes of one of them alone, for callgrind
@@ -12,6 +13,7 @@ mod footprint;
 mod ladder;
 mod ours;
 mod plot;
+mod sheet;
 mod timing;
 
 use std::path::Path;
@@ -36,6 +38,8 @@ fn report(target: &Path) {
     timing::table();
     println!();
     ladder::table();
+    println!();
+    sheet::table();
     println!();
     footprint::table(target);
 }

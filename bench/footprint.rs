@@ -1,7 +1,7 @@
 //! What a quote, a price, a ladder, a window and a sheet take of the machine: instructions, stack, text and constants.
 
 use crate::ladder::{self, Ladder, Lent, PLACES};
-use crate::{ours, timing};
+use crate::{ours, sheet, timing};
 use oracle::inputs::{KINDS, Quote, Quotes, Rng, quote};
 use oracle::price_inputs::{Keyed, PRICE_KINDS, Prices};
 use std::arch::asm;
@@ -220,17 +220,12 @@ fn prices_stack() -> usize {
 }
 
 /// A sheet of 1,000 quotes near the bound of their price: of those painted, the ones that took most stack.
-fn sheet() -> Vec<u8> {
-    let mut bytes = 1000u32.to_be_bytes().to_vec();
+fn most_stacked() -> Vec<u8> {
     let mut stack = vec![PAINT; WORDS];
     let mut list = near_bound(NEAR_BOUND);
     list.sort_by_cached_key(|&q| std::cmp::Reverse(quote_stack(&mut stack, q)));
-    for q in list.into_iter().take(1000) {
-        bytes.extend(q.side.to_be_bytes());
-        let figures = [q.price, q.forward, q.strike, q.time, q.factor];
-        figures.iter().for_each(|x| bytes.extend(x.to_bits().to_be_bytes()));
-    }
-    bytes
+    list.truncate(1000);
+    sheet::bytes(&list)
 }
 
 /// The most bytes of stack of the program on that sheet, by massif; none where valgrind is not there.
@@ -244,7 +239,7 @@ fn sheet_stack(program: &Path, out: &Path) -> Option<u64> {
         .stderr(Stdio::null())
         .spawn()
         .ok()?;
-    child.stdin.take()?.write_all(&sheet()).ok()?;
+    child.stdin.take()?.write_all(&most_stacked()).ok()?;
     child.wait().ok().filter(|status| status.success())?;
     let text = std::fs::read_to_string(out).ok()?;
     text.lines().filter_map(|line| line.strip_prefix("mem_stacks_B=")?.parse().ok()).max()

@@ -55,6 +55,16 @@ unsafe extern "C" {
         roots: *mut u64,
     ) -> u32;
     pub fn quoter_window_write(window: *mut u8, offset: u32, word: u32) -> u32;
+    fn quoter_sheet_line(
+        sheet: *const u8,
+        length: u64,
+        finite: *mut u32,
+        infinite: *mut u32,
+        refusals: *mut u32,
+        text: *mut u8,
+        room: u64,
+        count: *mut u64,
+    ) -> u32;
 }
 
 /// The side and figures of a quote as they stand in a window, from its byte 8 on. A window has no factor.
@@ -152,4 +162,28 @@ pub fn ladder(l: &Ladder, lent: &mut Lent) -> Option<u64> {
         )
     };
     (number == 0).then_some(roots)
+}
+
+/// The lines of a sheet's text, one after the other.
+pub fn lines(sheet: &[u8], mut take: impl FnMut(&[u8])) {
+    let (mut finite, mut infinite, mut refusals) = (0, 0, 0);
+    let (mut line, mut count) = ([0; 46], 0);
+    loop {
+        let letter = unsafe {
+            quoter_sheet_line(
+                sheet.as_ptr(),
+                sheet.len() as u64,
+                &mut finite,
+                &mut infinite,
+                &mut refusals,
+                line.as_mut_ptr(),
+                line.len() as u64,
+                &mut count,
+            )
+        };
+        take(&line[..count as usize]);
+        if letter != b'V' as u32 && letter != b'R' as u32 {
+            return;
+        }
+    }
 }

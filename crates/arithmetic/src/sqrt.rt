@@ -151,16 +151,9 @@ fn of_normal(b: u64) -> f64
     f64::from_bits(k * TWO_TO_52 + closest(w, q))
 }
 
-// The root of the subnormal x with pattern b, which is b * 2^-1074: √b times 2^-537.
-fn of_subnormal(b: u64) -> f64
-    requires { ⌜ (0 < b) × (b < 2 ^ 52) ⌝ }
-    ensures { λ r. ⌜ r ≡ sqrt (ofBits binary64 b) ⌝ }
-{
-    of_normal(f64::to_bits(b as f64)) * f64::from_bits(LOWEST_ROOT)
-}
-
-// The f64 nearest to √x. A zero is its own root, with its sign, and anything else below zero has
-// none.
+// The f64 nearest to √x. A zero is its own root, with its sign, and anything else below zero has none. A subnormal x
+// with pattern b is b * 2^-1074, and its root √b times 2^-537. `of_normal` is called in one place, for both: so the
+// compiler puts it in here, and a caller of `sqrt` holds a call and none of the tests.
 pub fn sqrt(x: f64) -> f64
     ensures { λ r. ⌜ r ≡ sqrt x ⌝ }
 {
@@ -168,18 +161,23 @@ pub fn sqrt(x: f64) -> f64
         return x;
     }
     let b = f64::to_bits(x);
+    if INFINITY <= b {
+        // +inf, -0 and all that is below zero
+        if b <= SIGN {
+            return x;
+        }
+        return 0.0 / 0.0;
+    }
+    let mut c = b;
     if b < TWO_TO_52 {
         if b == 0 {
             return x;
         }
-        return of_subnormal(b);
+        c = f64::to_bits(b as f64);
     }
-    if b < INFINITY {
-        return of_normal(b);
+    let r = of_normal(c);
+    if b < TWO_TO_52 {
+        return r * f64::from_bits(LOWEST_ROOT);
     }
-    // what is left is +inf, -0 and all that is below zero
-    if b <= SIGN {
-        return x;
-    }
-    0.0 / 0.0
+    r
 }

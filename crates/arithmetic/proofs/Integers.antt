@@ -1,4 +1,4 @@
--- Whole numbers as floats, for `signed_integer`, `general`, `decompose_bits` and `of_subnormal`: a cast is `round`, exact up to 2 ^ 53. Assumes nothing.
+-- Whole numbers as floats, for `signed_integer`, `general`, `decompose_bits` and `sqrt`: a cast is `round`, exact up to 2 ^ 53. Assumes nothing.
 use mathlib.Core.Path.{_≡_, refl}
 use mathlib.Core.Bool.{true, false}
 use Prim.Native.Nat.{ℕ, suc, _^_, _≤_}

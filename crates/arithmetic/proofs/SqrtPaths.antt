@@ -1,5 +1,5 @@
--- What `sqrt`, `of_normal` and `of_subnormal` give: the root of what a bit pattern stands for, on each path of the code, and the pattern that the code
--- puts together. Assumes nothing.
+-- What `sqrt` and `of_normal` give: the root of what a bit pattern stands for, on each path of the code, and the pattern that the code puts
+-- together. Assumes nothing.
 use mathlib.Core.Path.{_≡_, refl, sym, ap, _∙_, subst}
 use mathlib.Core.Logic.{_⊎_, inl, inr}
 use Prim.Native.Nat.{ℕ, zero, suc, _+_, _-_, _*_, _/_, _%_, _^_, _≤_, _<_}
@@ -113,7 +113,7 @@ pattern-at b k w i r low high (lo, hi) K e g h =
     ∙ ap sqrtUnits (ap (λ (x : ℕ). x * 4 ^ k) e ∙ mul-assoc m (2 ^ i) (4 ^ k) ∙ ap (λ (x : ℕ). m * x) exponent)
     ∙ sym (of-normal b low high)
 
--- ---- what `of_subnormal` does: b units are b * 2 ^ -1074, so the root is √b times 2 ^ -537
+-- ---- what `sqrt` does with a subnormal value: b units are b * 2 ^ -1074, so the root is √b times 2 ^ -537
 unit-root : HasValue (ofBits binary64 0x1e60_0000_0000_0000) false 1 (2 ^ 537)
 unfolding ofBits
 unit-root = (refl, refl)

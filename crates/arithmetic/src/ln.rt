@@ -1,10 +1,11 @@
 // The natural logarithm of x, and of 1 + u for a u near 0, with fdlibm's coefficients.
 ghost use mathlib.Core.Path.{_≡_};
 ghost use Prim.Native.Nat.{_^_, _≤_};
-ghost use lib.Dec.{T};
-ghost use lib.Ieee.Positive.{positive};
-ghost use Rattle.arithmetic.specs.Ln.{significand, exponent, series, ln, ln1p};
+ghost use Rattle.arithmetic.specs.Operations.{_⊖_, _⊗_, one};
+ghost use Rattle.arithmetic.specs.Exp.{ln2Lo};
+ghost use Rattle.arithmetic.specs.Ln.{series, ln, ln1p};
 ghost use Rattle.arithmetic.specs.Internal.Ln.{significandOfBits, exponentOfBits};
+use super::constants::MIN_POSITIVE;
 use super::exp::LN2_HI;
 use super::exp::LN2_LO;
 use super::format::INFINITY;
@@ -57,19 +58,8 @@ fn decompose_bits(b: u64) -> Decomposed
     }
 }
 
-// x as m * 2^k. A subnormal x is multiplied by 2^52, and the field of the product counts from 52 on.
-fn decompose(x: f64) -> Decomposed
-    requires { ⌜ T (positive x) ⌝ }
-    ensures { λ r. ⌜ (r .m ≡ significand x) × (r .k ≡ exponent x) ⌝ }
-{
-    let b = f64::to_bits(x);
-    if b < TWO_TO_52 {
-        return decompose_bits(f64::to_bits(x * NORMALISER));
-    }
-    decompose_bits(b + NORMALISER_STEPS)
-}
-
-// The sum that both logarithms end with.
+// The sum that both logarithms end with. The test keeps the compiler from pairing the operations of the two halves of r,
+// which would wait for each other: a NaN there is the result.
 fn series(f: f64, k: f64, kl: f64) -> f64
     ensures { λ r. ⌜ r ≡ series f k kl ⌝ }
 {
@@ -77,25 +67,42 @@ fn series(f: f64, k: f64, kl: f64) -> f64
     let z = s * s;
     let w = z * z;
     let g = (0.5 * f) * f;
-    let r = z * (G1 + w * (G3 + w * (G5 + w * G7))) + w * (G2 + w * (G4 + w * G6));
+    let odd = z * (G1 + w * (G3 + w * (G5 + w * G7)));
+    if odd != odd {
+        return odd;
+    }
+    let r = odd + w * (G2 + w * (G4 + w * G6));
     s * (g + r) + kl - g + f + k * LN2_HI
 }
 
+// The logarithm by a pattern as `decompose_bits` takes it.
+fn of_pattern(b: u64) -> f64
+    requires { ⌜ 2 ^ 52 ≤ b ⌝ }
+    ensures { λ r. ⌜ r ≡ series (significandOfBits b ⊖ one) (exponentOfBits b) (exponentOfBits b ⊗ ln2Lo) ⌝ }
+{
+    let p = decompose_bits(b);
+    series(p.m - 1.0, p.k, p.k * LN2_LO)
+}
+
+// What is nearly always there is tested first. A subnormal x is multiplied by 2^52, and the exponent's field of the
+// product counts from 52 on.
 pub fn ln(x: f64) -> f64
     ensures { λ r. ⌜ r ≡ ln x ⌝ }
 {
+    if MIN_POSITIVE <= x {
+        if x < f64::from_bits(INFINITY) {
+            return of_pattern(f64::to_bits(x) + NORMALISER_STEPS);
+        }
+        return x;
+    }
+    if x > 0.0 {
+        return of_pattern(f64::to_bits(x * NORMALISER));
+    }
     if x == 0.0 {
         return f64::from_bits(NEGATIVE_INFINITY);
     }
-    if x < 0.0 {
-        return 0.0 / 0.0;
-    }
-    if x < f64::from_bits(INFINITY) {
-        let p = decompose(x);
-        return series(p.m - 1.0, p.k, p.k * LN2_LO);
-    }
-    // the infinity, or NaN
-    x
+    // below zero, or NaN
+    0.0 / 0.0
 }
 
 // The natural logarithm of 1 + u, for a u from -0.25 to 1.5.
@@ -107,8 +114,9 @@ pub fn ln_1p(u: f64) -> f64
             if u < 0.40625 {
                 return series(u, 0.0, 0.0);
             }
+            // from 1.40625 to 2.5, and so normal
             let v = 1.0 + u;
-            let p = decompose(v);
+            let p = decompose_bits(f64::to_bits(v) + NORMALISER_STEPS);
             return series(p.m - 1.0, p.k, p.k * LN2_LO + (u - (v - 1.0)) / v);
         }
         return 0.0 / 0.0;

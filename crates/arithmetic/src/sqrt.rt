@@ -20,10 +20,10 @@ const TWO_TO_28: u64 = 0x1000_0000;
 
 const TWO_TO_30: u64 = 0x4000_0000;
 
-// The table's index stands in five digits of a pattern: the last of the exponent's field and four of the fraction's.
-const INDEX_STEP: u64 = 0x1_0000_0000_0000;
+// The table's index stands in seven digits of a pattern: the last of the exponent's field and six of the fraction's.
+const INDEX_STEP: u64 = 0x4000_0000_0000;
 
-const INDICES: u64 = 32;
+const INDICES: u64 = 128;
 
 // The pattern of 1/2.
 const HALF: u64 = 0x3fe0_0000_0000_0000;
@@ -108,9 +108,9 @@ fn closest(w: u64, q: u64) -> u64
     by_digits(w)
 }
 
-// An estimate of √x for the normal x above 0 with pattern b: the nearest f64 for all but about 1 in 200, and no proof
+// An estimate of √x for the normal x above 0 with pattern b: the nearest f64 for all but about 1 in 720, and no proof
 // asks it to be. With x = z * 4^j for a z from 1/2 to 2, s from the table and h = (z - s²) / (4s²), √z is
-// s + 2sh * (1 - h + 2h² - 5h³ + ..); z - s² is exact, and |h| is below 2^-7.
+// s + 2sh * (1 - h + 2h² - 5h³ + ..); z - s² is exact, and |h| is below 2^-9.
 fn estimate(b: u64) -> f64
     requires { ⌜ b < 0x7ff0_0000_0000_0000 ⌝ }
 {
@@ -123,10 +123,9 @@ fn estimate(b: u64) -> f64
     let t = d * (slope * scale);
     let h2 = h * h;
     let th = t * h;
-    let near = t + th * (2.0000000000295675 * h - 1.0);
-    let middle = 13.999995878540293 * h - 5.0;
-    let far = (132.14362418261675 * h - 42.0) - 429.0 * h2;
-    root_table::root(i) * scale + (near + th * h2 * (middle + h2 * far))
+    let near = t + th * (1.9999999994180802 * h - 1.0);
+    let far = (14.000619740340511 * h - 4.999999996595962) - 42.00241688407218 * h2;
+    root_table::root(i) * scale + (near + th * h2 * far)
 }
 
 // The root of the normal x above 0 with pattern b.
@@ -151,16 +150,9 @@ fn of_normal(b: u64) -> f64
     f64::from_bits(k * TWO_TO_52 + closest(w, q))
 }
 
-// The root of the subnormal x with pattern b, which is b * 2^-1074: √b times 2^-537.
-fn of_subnormal(b: u64) -> f64
-    requires { ⌜ (0 < b) × (b < 2 ^ 52) ⌝ }
-    ensures { λ r. ⌜ r ≡ sqrt (ofBits binary64 b) ⌝ }
-{
-    of_normal(f64::to_bits(b as f64)) * f64::from_bits(LOWEST_ROOT)
-}
-
-// The f64 nearest to √x. A zero is its own root, with its sign, and anything else below zero has
-// none.
+// The f64 nearest to √x. A zero is its own root, with its sign, and anything else below zero has none. A subnormal x
+// with pattern b is b * 2^-1074, and its root √b times 2^-537. `of_normal` is called in one place, for both: so the
+// compiler puts it in here, and a caller of `sqrt` holds a call and none of the tests.
 pub fn sqrt(x: f64) -> f64
     ensures { λ r. ⌜ r ≡ sqrt x ⌝ }
 {
@@ -168,18 +160,23 @@ pub fn sqrt(x: f64) -> f64
         return x;
     }
     let b = f64::to_bits(x);
+    if INFINITY <= b {
+        // +inf, -0 and all that is below zero
+        if b <= SIGN {
+            return x;
+        }
+        return 0.0 / 0.0;
+    }
+    let mut c = b;
     if b < TWO_TO_52 {
         if b == 0 {
             return x;
         }
-        return of_subnormal(b);
+        c = f64::to_bits(b as f64);
     }
-    if b < INFINITY {
-        return of_normal(b);
+    let r = of_normal(c);
+    if b < TWO_TO_52 {
+        return r * f64::from_bits(LOWEST_ROOT);
     }
-    // what is left is +inf, -0 and all that is below zero
-    if b <= SIGN {
-        return x;
-    }
-    0.0 / 0.0
+    r
 }

@@ -149,7 +149,7 @@ positive-tests (fin false (suc m) e) p =
       le-ltb (suc m * up e * 1) (0 * down e) (le-trans (le-of-eq (zero-mul (down e))) zero-le),
     )
 
-ln-at : (x : Float) → T (positive x) → ln x ≡ series (significand x ⊖ one) (exponent x) (exponent x ⊗ ln2Lo)
+pub ln-at : (x : Float) → T (positive x) → ln x ≡ series (significand x ⊖ one) (exponent x) (exponent x ⊗ ln2Lo)
 unfolding ln
 ln-at x p =
     let t = positive-tests x p in

@@ -3,24 +3,25 @@
 -- 0x16A09E00000000 is 741455 * 2 ^ 33. Assumes nothing.
 use mathlib.Core.Path.{_≡_, refl, sym, ap, _∙_, subst}
 use mathlib.Core.Logic.{_⊎_, inl, inr}
-use mathlib.Core.Bool.{Bool, true, false, not, cond}
+use mathlib.Core.Bool.{Bool, true, false, not, cond, true≢false}
 use Prim.Native.Nat.{ℕ, zero, suc, _+_, _-_, _*_, _/_, _%_, _^_, _≤_, _<_}
 use native.Mathlib.Nat.{le-trans, le-of-eq, lt-of-lt-of-le, lt-trans, one-mul, mul-assoc, mul-comm, mul-left-comm, mul-pos, mul-one, mul-le-mul-right}
-use native.Mathlib.Nat.{mul-div-cancel, lt-of-mul-lt-mul-right, le-of-mul-le-mul-right, eq-of-mul-eq-mul-right}
+use native.Mathlib.Nat.{mul-le-mul, mul-div-cancel, lt-of-mul-lt-mul-right, le-of-mul-le-mul-right, eq-of-mul-eq-mul-right}
 use native.Mathlib.Omega.{arith}
 use borrow.Author.Tests.{lt-ltb, le-ltb, leb-false}
 use lib.IntN.{ℤ}
 use lib.Dec.{T, ltb, leb, lit<}
 use lib.Pow.{pow-add, pow-pos, pow-mono, shl-lt}
-use lib.Ieee.{Float, binary64, up, down, minus, size, odd, round, ofInt, fits, isNan, ofBits, toBits, ofFields}
+use lib.Ieee.{Float, binary64, up, down, minus, size, odd, round, ofInt, fits, isNan, le, ofBits, toBits, ofFields}
 use lib.Ieee.Digits.{minus-val}
 use lib.Ieee.Fits.{mul-fits}
-use lib.Ieee.Bits.{ofBits-fits, ofBits-toBits, toBits-ofBits, nanBits-is}
+use lib.Ieee.Bits.{is-true, ofBits-fits, ofBits-toBits, toBits-ofBits, nanBits-is}
 use lib.Ieee.Exact.{HasValue, odd-sign, round-exact}
+use lib.Ieee.Order.{le-of-values}
 use lib.Ieee.Scale.{finite, round-same}
-use lib.Ieee.Positive.{num, den, den-pos, positive, positive-finite, positive-of-value, value→cross, mul-at}
+use lib.Ieee.Positive.{num, den, den-pos, positive, positive-finite, positive-of-value, value→cross, values-of-le, mul-at}
 use Rattle.arithmetic.specs.Basic.{isSignMinus}
-use Rattle.arithmetic.specs.Operations.{_⊗_, bits}
+use Rattle.arithmetic.specs.Operations.{_⊗_, bits, minPositive}
 use Rattle.arithmetic.specs.Ln.{inUnits, place, significand, exponent}
 use Rattle.arithmetic.specs.Internal.Ln.{significandOfBits, exponentOfBits}
 use Rattle.arithmetic.specs.Laws.Numbers.{lt-or-le, pow-split, size-is}
@@ -171,6 +172,10 @@ read-low x b X h =
     subst (λ (y : ℕ). HasValue x false y (2 ^ 1074)) (mul-one b)
     (subst (λ (y : Float). HasValue y false (b * 2 ^ 0) (2 ^ 1074)) (sym (subnormal b h) ∙ X) (odd-sign 53 false b 0 1074))
 
+least-is : HasValue minPositive false 4503599627370496 (2 ^ 1074)
+unfolding ofBits
+least-is = (refl, refl)
+
 module _ (x : Float) (p : T (positive x)) (f : T (fits binary64 x)) where
   abbrev b : ℕ
   b = toBits binary64 x
@@ -183,6 +188,25 @@ module _ (x : Float) (p : T (positive x)) (f : T (fits binary64 x)) where
       subst (DecomposedBy x) together
       (decomposed-at x (q * 2 ^ j) q (j + 52) (read-normal x b (ofBits-toBits binary64 x f) lo (positive-bits x p f .1))
       (mul-assoc q (2 ^ j) (2 ^ 52) ∙ ap (λ (y : ℕ). q * y) (sym (pow-add 2 j 52))) (omega arith) (omega arith))
+
+  -- the pattern is from 2 ^ 52 on where the value is normal
+  pub normal-bits : T (le minPositive x) → 4503599627370496 ≤ b
+  unfolding ofBits
+  normal-bits h = elim (lt-or-le b 4503599627370496) [ inl l ↦ le-of-mul-le-mul-right (cross l) (pow-pos 1074) | inr l ↦ l ]
+    where
+      cross : b < 4503599627370496 → 4503599627370496 * 2 ^ 1074 ≤ b * 2 ^ 1074
+      cross l = values-of-le minPositive x 4503599627370496 (2 ^ 1074) b (2 ^ 1074) tt p least-is (read-low x b (ofBits-toBits binary64 x f) l) h
+
+  pub subnormal-bits : le minPositive x ≡ false → b < 4503599627370496
+  subnormal-bits h = elim (lt-or-le b 4503599627370496) [ inl l ↦ l | inr l ↦ absurd (true≢false (sym (is-true (le minPositive x) (reached l)) ∙ h)) ]
+    where
+      reached : 4503599627370496 ≤ b → T (le minPositive x)
+      reached l =
+          let q = 4503599627370496 + b % 4503599627370496 in
+          let j = b / 4503599627370496 - 1 in
+          let least : 4503599627370496 ≤ q = omega arith in
+          le-of-values minPositive x 4503599627370496 (2 ^ 1074) (q * 2 ^ j) (2 ^ 1074) (pow-pos 1074) (pow-pos 1074) least-is
+          (read-normal x b (ofBits-toBits binary64 x f) l (positive-bits x p f .1)) (mul-le-mul-right (2 ^ 1074) (mul-le-mul least (pow-pos j)))
 
   module _ (low : b < 4503599627370496) where
     value : HasValue x false b (2 ^ 1074)

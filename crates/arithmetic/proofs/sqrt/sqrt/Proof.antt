@@ -39,13 +39,13 @@ returns-2 c =
     let start = number .before in
     let is-number = ap isNan (back start) ∙ is-no-nan (start .args .x) (number .if1 .left) in
     sym (subst (λ (y : Float). sqrt y ≡ y) (back start)
-    (of-itself (toBits binary64 (start .args .x)) (from-infinity .if2 .taken) (c .if3 .taken) is-number))
+    (of-itself (toBits binary64 (start .args .x)) (from-infinity .if2 .taken) (omega (arith, c .if3 .taken)) is-number))
 
 returns-3 : tie.Need-returns-3
 returns-3 c =
     let number = c .before .before in
     let start = number .before in
-    of-below (toBits binary64 (start .args .x)) (c .if3 .left) (toBits-lt binary64 (start .args .x) (held start)) ∙ ap sqrt (back start)
+    of-below (toBits binary64 (start .args .x)) (omega (arith, c .if3 .left)) (toBits-lt binary64 (start .args .x) (held start)) ∙ ap sqrt (back start)
 
 returns-4 : tie.Need-returns-4
 returns-4 c =

@@ -37,11 +37,11 @@ use Rattle.arithmetic.specs.Laws.PowersOfTwo.{times-power}
 use Rattle.arithmetic.proofs.Trunc.{whole-part-is, whole-large}
 use Rattle.arithmetic.proofs.ExpGeneral.{product-at-most, half-away-round, biased-exponent, scaled, exp-is}
 use Rattle.arithmetic.proofs.ExpPower.{power-at}
-use Rattle.arithmetic.proofs.ExpZeroSign.{either-zero}
+use Rattle.arithmetic.proofs.ExpZeroSign.{scaled-by-zero}
 
 -- ---- the fast range, between -708 and 708, lies between the thresholds
 -- between -v and v, for a v = n * 2 ^ g
-between-limits : (x : Float) (n : ℕ) (g : ℤ) → lt x (fin false n g) ≡ true → lt (fin true n g) x ≡ true → T (finite x) × (num x * down g < n * up g * den x)
+pub between-limits : (x : Float) (n : ℕ) (g : ℤ) → lt x (fin false n g) ≡ true → lt (fin true n g) x ≡ true → T (finite x) × (num x * down g < n * up g * den x)
 unfolding lt
 between-limits nan n g h l = absurd (false≢true h)
 between-limits (inf true) n g h l = absurd (false≢true l)
@@ -53,7 +53,7 @@ within-range : (x : Float) → lt x fastLimit ≡ true → lt (neg fastLimit) x 
 unfolding neg ofBits
 within-range x h l = let b = between-limits x 177 (pos 2) h l in (b .0, le-of-lt (b .1))
 
-between-thresholds : (x : Float) → T (finite x) → num x * 1 ≤ 708 * den x → (lt oThreshold x ≡ false) × (lt x uThreshold ≡ false)
+pub between-thresholds : (x : Float) → T (finite x) → num x * 1 ≤ 708 * den x → (lt oThreshold x ≡ false) × (lt x uThreshold ≡ false)
 unfolding lt ofBits
 between-thresholds nan p h = absurd p
 between-thresholds (inf s) p h = absurd p
@@ -279,7 +279,7 @@ ceiling-fits n h =
     few : suc (n * 65536 + 65534) * 1 < 2 ^ 53
     few = omega arith
 
-floor-is : (s : Bool) (n a d : ℕ) → 0 < d → n < 1024 → (a - n * d + (n * d - a)) * 65536 < 32767 * d
+pub floor-is : (s : Bool) (n a d : ℕ) → 0 < d → n < 1024 → (a - n * d + (n * d - a)) * 65536 < 32767 * d
     → n ≡ wholePart (round binary64 s (a * 2 + 1 * 1 * d) (d * 2))
 floor-is s n a d D few h =
     let b = a * 2 + 1 * 1 * d in
@@ -330,21 +330,10 @@ biased-exponent-is j p = go (lt-or-le j 1023)
 k-small : (j : ℕ) → j < 2046 → k-size j < 1024
 k-small j h = in-both (λ (n : ℕ). n < 1024) (ltb j 1023) (omega arith) (omega arith)
 
-round-zero : (u : Bool) → round binary64 u 0 1 ≡ fin u 0 (pos 0)
-unfolding round
-round-zero u = refl
-
 either-sign : (x : Float) → T (fits binary64 x) → T (finite x) → (s u : Bool) (n : ℕ) → (n ≡ 0) ⊎ (u ≡ s)
     → scaled x u n ≡ scaled x s n
 either-sign x F p s u n (inr e) = ap (λ (v : Bool). scaled x v n) e
-either-sign x F p s u n (inl e) =
-    rw (e, round-zero s, round-zero u, either-zero x F p u s) (ap (λ (q : ℕ). scaleB (reduced x (fin s 0 (pos 0))) (minus q 1075)) (both u s))
-  where
-    both : (u s : Bool) → biased-exponent u 0 ≡ biased-exponent s 0
-    both true true = refl
-    both true false = refl
-    both false true = refl
-    both false false = refl
+either-sign x F p s u n (inl e) = rw e (scaled-by-zero x F p u ∙ sym (scaled-by-zero x F p s))
 
 -- ---- so the result is that of `exp`
 module _ (x : Float) (F : T (fits binary64 x)) (h : T (inFastRange x)) where

@@ -4,7 +4,7 @@ use mathlib.Core.Path.{_≡_, refl, sym, ap, _∙_, subst}
 use mathlib.Core.Logic.{_⊎_, inl, inr}
 use Prim.Native.Nat.{ℕ, zero, suc, _+_, _-_, _*_, _/_, _%_, _^_, _≤_, _<_}
 use native.Mathlib.Nat.{le-trans, le-of-eq, le-of-lt, le-antisymm, lt-of-not-le, not-le-of-lt, lt-of-lt-of-le, min-eq-left}
-use native.Mathlib.Nat.{le-div-iff-mul-le, div-lt-iff-lt-mul, mul-one, mul-assoc, mul-comm, mul-right-comm, mul-pos, mul-le-mul-right, le-of-mul-le-mul-right}
+use native.Mathlib.Nat.{le-div-iff-mul-le, div-lt-iff-lt-mul, mul-one, mul-right-comm, mul-pos, mul-le-mul-right, le-of-mul-le-mul-right}
 use native.Mathlib.Omega.{arith}
 use mathlib.Core.Bool.{Bool, true, false, not, _&&_, cond, false≢true}
 use borrow.Author.Tests.{ltb-true, lt-ltb, le-ltb}
@@ -12,11 +12,11 @@ use lib.IntN.{ℤ, pos, negsuc}
 use lib.Dec.{T, leb, ltb, eqb, lt→ltb, lit≤, lit<}
 use lib.Pow.{pow-pos}
 use denote.Floats.{passes}
-use lib.Ieee.{Float, nan, inf, fin, binary64, up, down, minus, odd, round, sum, neg, lt, fits, isNan, ofBits, toBits, nanBits}
-use lib.Ieee.Bits.{is-true, ofBits-fits, toBits-ofBits}
+use lib.Ieee.{Float, nan, inf, fin, binary64, up, down, minus, round, sum, neg, lt, fits, isNan, ofBits, toBits, nanBits}
+use lib.Ieee.Bits.{is-true}
 use lib.Ieee.Fits.{and-i, and-l, and-r, eq→eqb, round-fits, add-fits}
 use lib.Ieee.Back.{round-whole}
-use lib.Ieee.Exact.{HasValue, odd-sign}
+use lib.Ieee.Exact.{HasValue}
 use lib.Ieee.Scale.{finite}
 use lib.Ieee.Positive.{num, den, den-pos, through}
 use Rattle.arithmetic.specs.Operations.{_⊕_, _⊖_, _⊗_}
@@ -26,22 +26,22 @@ use Rattle.arithmetic.specs.Exp.{invLn2, oThreshold, uThreshold, halfAwa
 use Rattle.arithmetic.specs.Internal.Exp.{fastLimit, inFastRange, shift, shifted, maxRest, rest, clearOfTie}
 use Rattle.arithmetic.specs.Laws.Numbers.{lt-or-le, false-not}
 use Rattle.arithmetic.specs.Laws.Choices.{in-both}
-use Rattle.arithmetic.specs.Laws.Times.{cross, has-sign, has-finite, of-cross, rescale}
-use Rattle.arithmetic.specs.Laws.Patterns.{built, bits-no-nan, value-unique}
-use Rattle.arithmetic.specs.Laws.Representable.{representable}
-use Rattle.arithmetic.specs.Laws.Sums.{add-is, difference-is, sum-same}
+use Rattle.arithmetic.specs.Laws.Times.{cross, has-finite, of-cross, rescale}
+use Rattle.arithmetic.specs.Laws.Patterns.{bits-no-nan}
+use Rattle.arithmetic.specs.Laws.ShiftedSums.{Shifted, round-shifted, shifted-bits, shifted-no-nan}
+use Rattle.arithmetic.specs.Laws.Sums.{add-is, sub-values}
 use Rattle.arithmetic.specs.Laws.Compare.{finite-no-nan}
 use Rattle.arithmetic.specs.Laws.Bounds.{AtMost, round-at-most, round-at-least}
-use Rattle.arithmetic.specs.Laws.Sizes.{apart-by, sum-size, sub-is}
+use Rattle.arithmetic.specs.Laws.Sizes.{apart-by, sum-size}
 use Rattle.arithmetic.specs.Laws.PowersOfTwo.{times-power}
-use Rattle.arithmetic.proofs.Trunc.{whole-part-is, whole-large}
+use Rattle.arithmetic.proofs.Trunc.{whole-part-is}
 use Rattle.arithmetic.proofs.ExpGeneral.{product-at-most, half-away-round, biased-exponent, scaled, exp-is}
 use Rattle.arithmetic.proofs.ExpPower.{power-at}
-use Rattle.arithmetic.proofs.ExpZeroSign.{either-zero}
+use Rattle.arithmetic.proofs.ExpZeroSign.{scaled-by-zero}
 
 -- ---- the fast range, between -708 and 708, lies between the thresholds
 -- between -v and v, for a v = n * 2 ^ g
-between-limits : (x : Float) (n : ℕ) (g : ℤ) → lt x (fin false n g) ≡ true → lt (fin true n g) x ≡ true → T (finite x) × (num x * down g < n * up g * den x)
+pub between-limits : (x : Float) (n : ℕ) (g : ℤ) → lt x (fin false n g) ≡ true → lt (fin true n g) x ≡ true → T (finite x) × (num x * down g < n * up g * den x)
 unfolding lt
 between-limits nan n g h l = absurd (false≢true h)
 between-limits (inf true) n g h l = absurd (false≢true l)
@@ -53,7 +53,7 @@ within-range : (x : Float) → lt x fastLimit ≡ true → lt (neg fastLimit) x 
 unfolding neg ofBits
 within-range x h l = let b = between-limits x 177 (pos 2) h l in (b .0, le-of-lt (b .1))
 
-between-thresholds : (x : Float) → T (finite x) → num x * 1 ≤ 708 * den x → (lt oThreshold x ≡ false) × (lt x uThreshold ≡ false)
+pub between-thresholds : (x : Float) → T (finite x) → num x * 1 ≤ 708 * den x → (lt oThreshold x ≡ false) × (lt x uThreshold ≡ false)
 unfolding lt ofBits
 between-thresholds nan p h = absurd p
 between-thresholds (inf s) p h = absurd p
@@ -81,13 +81,6 @@ shift-is : shift ≡ fin false 6755399441056767 (pos 0)
 unfolding ofBits
 shift-is = refl
 
--- t is 3 * 2 ^ 51 + j, so j stands in its last bits
-record Shifted (t : Float) : Type 0 where
-  j : ℕ
-  some : 0 < j
-  few : j < 2046
-  value : HasValue t false (6755399441055744 + j) 1
-
 -- n / d of size 1022 at most, and the sum a / d with it
 sum-between : (s : Bool) (n d : ℕ) → 0 < d → n * 1 ≤ 1022 * d
     → (a : ℕ)
@@ -103,82 +96,20 @@ sum-between true n d D h = (
   omega arith,
 )
 
-ends-fit : T (fits binary64 (fin false 6755399441055745 (pos 0))) × T (fits binary64 (fin false 6755399441057789 (pos 0)))
-unfolding fits
-ends-fit = (tt, tt)
-
--- a value of the format between the two is whole
-whole-between : (t : Float) → T (fits binary64 t) → T (finite t) → isSignMinus t ≡ false
-    → 6755399441055745 * den t ≤ num t → num t ≤ 6755399441057789 * den t → Shifted t
-whole-between t F p e lo hi =
-    let o = representable binary64 t F p in
-    let n = num t in
-    let l = den t in
-    let L = den-pos t in
-    let far = le-div-iff-mul-le L .1 (le-trans (least l) lo) in
-    let w = o .digits * 2 ^ (o .place - 1074) in
-    let n-is : n ≡ w * l = whole-large n l (o .digits) (o .place) L (o .exact) (o .few) far in
-    let w-lo : 6755399441055745 ≤ w = le-of-mul-le-mul-right (le-trans lo (le-of-eq n-is)) L in
-    let w-hi : w ≤ 6755399441057789 = le-of-mul-le-mul-right (le-trans (le-of-eq (sym n-is)) hi) L in
-    record {
-      j = w - 6755399441055744;
-      some = omega (arith, w-lo);
-      few = omega (arith, w-hi);
-      value = of-cross t false (6755399441055744 + (w - 6755399441055744)) 1 p e (mul-one n ∙ n-is ∙ ap (λ (z : ℕ). z * l) (back w w-lo));
-    }
-  where
-    least : (d : ℕ) → 4503599627370496 * d ≤ 6755399441055745 * d
-    least d = omega arith
-
-    back : (w : ℕ) → 6755399441055745 ≤ w → w ≡ 6755399441055744 + (w - 6755399441055744)
-    back w h = omega arith
-
-sum-is-shifted : (v : Float) → T (finite v) → num v * 1 ≤ 1022 * den v → Shifted (v ⊕ shift)
+sum-is-shifted : (v : Float) → T (finite v) → num v * 1 ≤ 1022 * den v → Shifted 0 1 2045 (v ⊕ shift)
 sum-is-shifted v p h =
-    let s = isSignMinus v in
     let d = den v in
-    let b = sum-between s (num v) d (den-pos v) h in
-    let a = b .0 in
-    let r = round binary64 false a (d * 1) in
-    let D : 0 < d * 1 = mul-pos (den-pos v) (lit≤ tt) in
-    let is : v ⊕ shift ≡ r = ap (λ (z : Float). v ⊕ z) shift-is ∙ add-is binary64 v (fin false 6755399441056767 (pos 0)) p tt ∙ b .1 in
-    let most = fin false 6755399441057789 (pos 0) in
-    let least = fin false 6755399441055745 (pos 0) in
-    let top : AtMost false most r = round-at-most binary64 false a (d * 1) most D (ends-fit .1) tt (upper a d (b .3)) in
-    let bottom = round-at-least binary64 false a (d * 1) least D (ends-fit .0) tt (top .is-finite) (lower a d (b .2)) in
-    subst Shifted (sym is)
-    (whole-between r (round-fits binary64 false a (d * 1)) (top .is-finite) (top .sign)
-    (le-trans bottom (le-of-eq (mul-one (num r)))) (le-trans (le-of-eq (sym (mul-one (num r)))) (top .bound)))
+    let b = sum-between (isSignMinus v) (num v) d (den-pos v) h in
+    subst (Shifted 0 1 2045)
+    (sym (ap (λ (z : Float). v ⊕ z) shift-is ∙ add-is binary64 v (fin false 6755399441056767 (pos 0)) p tt ∙ b .1))
+    (round-shifted 0 1 2045 (b .0) (d * 1) (mul-pos (den-pos v) (lit≤ tt)) (lit≤ tt) (lit≤ tt) (lit< tt)
+    (lower (b .0) d (b .2)) (upper (b .0) d (b .3)))
   where
     upper : (a d : ℕ) → a ≤ 6755399441057789 * d → a * 1 ≤ 6755399441057789 * (d * 1)
     upper a d h = omega arith
 
     lower : (a d : ℕ) → 6755399441055745 * d ≤ a → 6755399441055745 * (d * 1) ≤ a * 1
     lower a d h = omega arith
-
--- ---- the pattern of the sum
-module _ (t : Float) (F : T (fits binary64 t)) (S : Shifted t) where
-  shifted-bits : toBits binary64 t ≡ 0x4338_0000_0000_0000 + S .j
-  shifted-bits =
-      let n = 6755399441055744 + S .j in
-      let lo : 4503599627370496 ≤ n = omega arith in
-      let hi : n < 9007199254740992 = omega (arith, S .few) in
-      let b = 1074 * 4503599627370496 + n in
-      let is : ofBits binary64 b ≡ odd 53 false n 1074 1074 = built 1074 n (lit< tt) lo hi in
-      let value : HasValue (ofBits binary64 b) false n 1 =
-      subst (λ (z : Float). HasValue z false n 1) (sym is)
-      (rescale (odd 53 false n 1074 1074) false (n * 2 ^ 1074) (2 ^ 1074) n 1 (pow-pos 1074) (sym (mul-one (n * 2 ^ 1074))) (odd-sign 53 false n 1074 1074)) in
-      let no-nan = false-not (isNan (ofBits binary64 b)) (finite-no-nan (ofBits binary64 b) (has-finite (ofBits binary64 b) false n 1 value)) in
-      let same : t ≡ ofBits binary64 b = value-unique binary64 t (ofBits binary64 b) false n 1 (pow-pos 0) F (ofBits-fits binary64 b) (S .value) value in
-      ap (toBits binary64) same
-      ∙ toBits-ofBits binary64 b (under (S .j) (S .few)) no-nan
-      ∙ apart (S .j)
-    where
-      under : (j : ℕ) → j < 2046 → 1074 * 4503599627370496 + (6755399441055744 + j) < 18446744073709551616
-      under j h = omega arith
-
-      apart : (j : ℕ) → 1074 * 4503599627370496 + (6755399441055744 + j) ≡ 4843621399236968448 + j
-      apart j = omega arith
 
 -- ---- less `shift` it is k, j - 1023 with its sign
 abbrev k-sign : ℕ → Bool
@@ -199,22 +130,12 @@ difference j = go (lt-or-le j 1023)
         let e : 6755399441055744 + j - 6755399441056767 ≡ j - 1023 = omega arith in
         rw (le-ltb (6755399441055744 + j) 6755399441056767 (omega arith), le-ltb j 1023 h, e) refl
 
-minus-shift : neg shift ≡ fin true 6755399441056767 (pos 0)
-unfolding neg ofBits
-minus-shift = refl
+shift-value : HasValue shift false 6755399441056767 1
+unfolding ofBits
+shift-value = (refl, refl)
 
-k-is : (t : Float) (S : Shifted t) → t ⊖ shift ≡ round binary64 (k-sign (S .j)) (k-size (S .j)) 1
-k-is t S =
-    let n = 6755399441055744 + S .j in
-    let p = has-finite t false n 1 (S .value) in
-    let c : num t * 1 ≡ n * den t = cross t false n 1 (S .value) in
-    sub-is t shift
-    ∙ ap (λ (z : Float). t ⊕ z) minus-shift
-    ∙ add-is binary64 t (fin true 6755399441056767 (pos 0)) p tt
-    ∙ ap (λ (u : Bool). sum binary64 u (num t * 1) true (6755399441056767 * den t) (den t * 1)) (has-sign t false n 1 (S .value))
-    ∙ sum-same binary64 false true n 6755399441056767 1 (num t * 1) (6755399441056767 * den t) (den t * 1) (pow-pos 0) (mul-pos (den-pos t) (pow-pos 0))
-    (mul-one (num t * 1) ∙ c ∙ ap (λ (z : ℕ). n * z) (sym (mul-one (den t)))) (mul-assoc 6755399441056767 (den t) 1)
-    ∙ difference (S .j)
+k-is : (t : Float) (S : Shifted 0 1 2045 t) → t ⊖ shift ≡ round binary64 (k-sign (S .j)) (k-size (S .j)) 1
+k-is t S = sub-values binary64 t shift false false (6755399441055744 + S .j) 6755399441056767 1 (pow-pos 0) (S .value) shift-value ∙ difference (S .j)
 
 -- ---- x / ln 2 less k is below `maxRest`, 1 / 2 - 2 ^ -16, in size
 maxRest-fits : T (fits binary64 (fin false 32767 (negsuc 15)))
@@ -229,18 +150,8 @@ within-rest d h l = between-limits d 32767 (negsuc 15) h l
 less-whole : (v k : Float) (u : Bool) (n : ℕ) → T (finite v) → HasValue k u n 1
     → v ⊖ k ≡ sum binary64 (isSignMinus v) (num v) (not u) (n * den v) (den v)
 less-whole v k u n p K =
-    let q = has-finite k u n 1 K in
-    let c : num k * 1 ≡ n * den k = cross k u n 1 K in
-    difference-is binary64 v k p q
-    ∙ rw (has-sign k u n 1 K)
-    (sum-same binary64 (isSignMinus v) (not u) (num v) (n * den v) (den v) (num v * den k) (num k * den v) (den v * den k)
-    (den-pos v) (mul-pos (den-pos v) (den-pos k))
-    (mul-assoc (num v) (den k) (den v) ∙ ap (λ (z : ℕ). num v * z) (mul-comm (den k) (den v))) (second (num k) n (den v) (den k) c))
-  where
-    second : (a n d l : ℕ) → a * 1 ≡ n * l → a * d * d ≡ n * d * (d * l)
-    second a n d l h =
-        let r : n * l * d * d ≡ n * d * (d * l) = simp (mul-assoc, mul-comm) in
-        ap (λ (z : ℕ). z * d * d) (sym (mul-one a) ∙ h) ∙ r
+    sub-values binary64 v k (isSignMinus v) u (num v) (n * den v) (den v) (den-pos v) (of-cross v (isSignMinus v) (num v) (den v) p refl refl)
+    (rescale k u n 1 (n * den v) (den v) (pow-pos 0) (mul-one (n * den v)) K)
 
 rest-small : (v k : Float) (u : Bool) (n : ℕ) → T (finite v) → HasValue k u n 1 → lt (v ⊖ k) maxRest ≡ true → lt (neg maxRest) (v ⊖ k) ≡ true
     → apart-by (isSignMinus v) (not u) (num v) (n * den v) * 65536 < 32767 * den v
@@ -279,7 +190,7 @@ ceiling-fits n h =
     few : suc (n * 65536 + 65534) * 1 < 2 ^ 53
     few = omega arith
 
-floor-is : (s : Bool) (n a d : ℕ) → 0 < d → n < 1024 → (a - n * d + (n * d - a)) * 65536 < 32767 * d
+pub floor-is : (s : Bool) (n a d : ℕ) → 0 < d → n < 1024 → (a - n * d + (n * d - a)) * 65536 < 32767 * d
     → n ≡ wholePart (round binary64 s (a * 2 + 1 * 1 * d) (d * 2))
 floor-is s n a d D few h =
     let b = a * 2 + 1 * 1 * d in
@@ -327,24 +238,13 @@ biased-exponent-is j p = go (lt-or-le j 1023)
     go (inl h) = rw (lt-ltb j 1023 h) (omega arith)
     go (inr h) = rw (le-ltb j 1023 h) (omega arith)
 
-k-small : (j : ℕ) → j < 2046 → k-size j < 1024
+k-small : (j : ℕ) → j ≤ 2045 → k-size j < 1024
 k-small j h = in-both (λ (n : ℕ). n < 1024) (ltb j 1023) (omega arith) (omega arith)
-
-round-zero : (u : Bool) → round binary64 u 0 1 ≡ fin u 0 (pos 0)
-unfolding round
-round-zero u = refl
 
 either-sign : (x : Float) → T (fits binary64 x) → T (finite x) → (s u : Bool) (n : ℕ) → (n ≡ 0) ⊎ (u ≡ s)
     → scaled x u n ≡ scaled x s n
 either-sign x F p s u n (inr e) = ap (λ (v : Bool). scaled x v n) e
-either-sign x F p s u n (inl e) =
-    rw (e, round-zero s, round-zero u, either-zero x F p u s) (ap (λ (q : ℕ). scaleB (reduced x (fin s 0 (pos 0))) (minus q 1075)) (both u s))
-  where
-    both : (u s : Bool) → biased-exponent u 0 ≡ biased-exponent s 0
-    both true true = refl
-    both true false = refl
-    both false true = refl
-    both false false = refl
+either-sign x F p s u n (inl e) = rw e (scaled-by-zero x F p u ∙ sym (scaled-by-zero x F p s))
 
 -- ---- so the result is that of `exp`
 module _ (x : Float) (F : T (fits binary64 x)) (h : T (inFastRange x)) where
@@ -360,30 +260,33 @@ module _ (x : Float) (F : T (fits binary64 x)) (h : T (inFastRange x)) where
   at-most : AtMost (isSignMinus x) (fin false 511 (pos 1)) v
   at-most = quotient-at-most x (in-range .0) (in-range .1)
 
-  sum-shifted : Shifted (shifted x)
+  sum-shifted : Shifted 0 1 2045 (shifted x)
   sum-shifted = sum-is-shifted v (at-most .is-finite) (at-most .bound)
 
   abbrev pattern : ℕ
   pattern = toBits binary64 (shifted x)
 
   pattern-is : pattern ≡ 0x4338_0000_0000_0000 + sum-shifted .j
-  pattern-is = shifted-bits (shifted x) (add-fits binary64 v shift) sum-shifted
+  pattern-is =
+      shifted-bits 1074 0 1 2045 refl (lit< tt) (shifted x) (add-fits binary64 v shift) sum-shifted ∙ apart (sum-shifted .j)
+    where
+      apart : (j : ℕ) → 1074 * 4503599627370496 + (6755399441055744 + j) ≡ 4843621399236968448 + j
+      apart j = omega arith
 
   pub sum-no-nan : T (not (isNan (shifted x)))
   sum-no-nan =
-      let finite = has-finite (shifted x) false (6755399441055744 + sum-shifted .j) 1 (sum-shifted .value) in
-      false-not (isNan (shifted x)) (finite-no-nan (shifted x) finite)
+      false-not (isNan (shifted x)) (shifted-no-nan 1074 0 1 2045 refl (lit< tt) (shifted x) (add-fits binary64 v shift) sum-shifted)
 
   pub pattern-ge : 0x4338_0000_0000_0000 ≤ pattern
   pattern-ge = omega (arith, pattern-is)
 
   pub pattern-lt : (pattern - 0x4338_0000_0000_0000) * 4503599627370496 < 2 ^ 64
-  pattern-lt = omega (arith, pattern-is, sum-shifted .few)
+  pattern-lt = omega (arith, pattern-is, sum-shifted .most)
 
   pub power-no-nan : T (not (nanBits binary64 ((pattern - 0x4338_0000_0000_0000) * 4503599627370496)))
-  power-no-nan = bits-no-nan ((pattern - 0x4338_0000_0000_0000) * 4503599627370496) (go pattern (sum-shifted .j) pattern-is (sum-shifted .few))
+  power-no-nan = bits-no-nan ((pattern - 0x4338_0000_0000_0000) * 4503599627370496) (go pattern (sum-shifted .j) pattern-is (sum-shifted .most))
     where
-      go : (b j : ℕ) → b ≡ 4843621399236968448 + j → j < 2046
+      go : (b j : ℕ) → b ≡ 4843621399236968448 + j → j ≤ 2045
           → (b - 4843621399236968448) * 4503599627370496 % 9223372036854775808 ≤ 9218868437227405312
       go b j e h = omega arith
 
@@ -397,7 +300,7 @@ module _ (x : Float) (F : T (fits binary64 x)) (h : T (inFastRange x)) where
       let u = k-sign j in
       let s = isSignMinus x in
       let k-round : k ≡ round binary64 u n 1 = k-is (shifted x) S in
-      let few : n < 1024 = k-small j (S .few) in
+      let few : n < 1024 = k-small j (S .most) in
       let K : HasValue k u n 1 = subst (λ (z : Float). HasValue z u n 1) (sym k-round) (round-whole binary64 u n (omega (arith, few))) in
       let below = lt (rest x) maxRest in
       let above = lt (neg maxRest) (rest x) in
@@ -408,8 +311,8 @@ module _ (x : Float) (F : T (fits binary64 x)) (h : T (inFastRange x)) where
       floor-is s n (num v) (den v) (den-pos v) few (a .1) ∙ ap wholePart (sym (half-away-round s x (at-most .is-finite) (at-most .sign))) in
       let between = between-thresholds x (in-range .0) (in-range .1) in
       ap (λ (b : ℕ). y ⊗ ofBits binary64 (b * 4503599627370496)) (ap (λ (b : ℕ). b - 4843621399236968448) pattern-is ∙ less j)
-      ∙ times-power y (ofBits binary64 (j * 4503599627370496)) (52 + j) (power-at j (S .some) (omega (arith, S .few)))
-      ∙ ap (λ (q : ℕ). scaleB y (minus q 1075)) (sym (biased-exponent-is j (S .some)))
+      ∙ times-power y (ofBits binary64 (j * 4503599627370496)) (52 + j) (power-at j (S .least) (omega (arith, S .most)))
+      ∙ ap (λ (q : ℕ). scaleB y (minus q 1075)) (sym (biased-exponent-is j (S .least)))
       ∙ ap (λ (z : Float). scaleB z (minus (biased-exponent u n) 1075)) (e ∙ ap (reduced x) k-round)
       ∙ either-sign x F (in-range .0) s u n sign
       ∙ exp-is x (finite-no-nan x (in-range .0)) (between .0) (between .1) s (halfAway s x) n refl refl part

@@ -19,3 +19,4 @@ mod LnPaths
 mod ExpZeroSign
 mod ExpPower
 mod ExpFast
+mod ExpNearZero

@@ -4,10 +4,10 @@ use mathlib.Core.Path.{_≡_, refl, sym, ap, _∙_, subst}
 use mathlib.Core.Logic.{_⊎_, inl, inr}
 use mathlib.Core.Bool.{Bool, true, false, not}
 use Prim.Native.Nat.{ℕ, zero, suc, _+_, _-_, _*_, _/_, _%_, _^_, _≤_, _<_, min}
-use native.Mathlib.Nat.{le-add-right, le-trans, le-of-eq, le-of-lt, lt-of-lt-of-le, lt-of-le-of-lt, not-le-of-lt, min-eq-left, min-eq-right, add-comm}
-use native.Mathlib.Nat.{add-mul, mul-one, mul-assoc, mul-comm, mul-right-comm, mul-le-mul, mul-lt-mul-of-pos-right, lt-of-mul-lt-mul-right}
+use native.Mathlib.Nat.{le-add-right, le-trans, le-of-eq, le-of-lt, lt-of-lt-of-le, lt-of-le-of-lt, min-eq-left, min-eq-right, add-comm}
+use native.Mathlib.Nat.{add-mul, mul-one, mul-assoc, mul-comm, mul-le-mul}
 use native.Mathlib.Nat.{mod-lt, mod-eq-of-lt, div-eq-of-lt, div-mul-le-self, div-add-mod', le-div-iff-mul-le, div-lt-iff-lt-mul}
-use native.Mathlib.Nat.{mul-div-cancel, mul-div-mul-right, mul-add-div-right, eq-of-mul-eq-mul-right}
+use native.Mathlib.Nat.{mul-div-cancel, mul-div-mul-right, mul-add-div-right}
 use native.Mathlib.Omega.{arith}
 use lib.Dec.{T, leb, le→leb, leb→le, lit≤, lit<}
 use lib.Pow.{pow-add, pow-pos, pow-mono, shl-lt, field as middle}
@@ -29,6 +29,7 @@ use Rattle.arithmetic.specs.Laws.Patterns.{ofBits-is, read-more, bits-no
 use Rattle.arithmetic.specs.Laws.Times.{cross, has-finite, rescale}
 use Rattle.arithmetic.specs.Laws.Compare.{finite-no-nan}
 use Rattle.arithmetic.specs.Laws.Signs.{is-nan, sign-bit}
+use Rattle.arithmetic.specs.Laws.ShiftedSums.{whole-large}
 use Rattle.arithmetic.specs.Laws.ExpBounds.{trunc-is}
 use Rattle.arithmetic.proofs.MulAddDecode.{value-subnormal, value-normal}
 
@@ -140,33 +141,6 @@ trunc-small (fin s m d) n F N e h =
   where
     min-left : (a : ℕ) → min a 4503599627370496 < 4503599627370496 → min a 4503599627370496 ≡ a
     min-left a h = omega arith
-
--- from 2 ^ 52 on every value n / l, of q * 2 ^ j smallest values, is whole
-large-place : (n l q j : ℕ) → 0 < l → n * 2 ^ 1074 ≡ q * 2 ^ j * l → q < 2 ^ 53 → 2 ^ 52 ≤ n / l → 1074 ≤ j
-large-place n l q j L e h b = go (lt-or-le j 1074)
-  where
-    room : (j : ℕ) → j < 1074 → 53 + j ≤ 1126
-    room j g = omega arith
-
-    small : j < 1074 → n < 2 ^ 52 * l
-    small g =
-        lt-of-mul-lt-mul-right (2 ^ 1074)
-        (subst (λ (z : ℕ). z < 2 ^ 52 * l * 2 ^ 1074) (sym e)
-        (lt-of-lt-of-le (mul-lt-mul-of-pos-right (lt-of-lt-of-le (shl-lt 53 j h) (pow-mono (room j g))) L)
-        (le-of-eq (mul-right-comm (2 ^ 52) (2 ^ 1074) l))))
-
-    go : (j < 1074) ⊎ (1074 ≤ j) → 1074 ≤ j
-    go (inl g) = absurd (not-le-of-lt (div-lt-iff-lt-mul L .1 (small g)) b)
-    go (inr g) = g
-
-pub whole-large : (n l q j : ℕ) → 0 < l → n * 2 ^ 1074 ≡ q * 2 ^ j * l → q < 2 ^ 53 → 2 ^ 52 ≤ n / l → n ≡ q * 2 ^ (j - 1074) * l
-whole-large n l q j L e h g =
-    let b = large-place n l q j L e h g in
-    eq-of-mul-eq-mul-right (2 ^ 1074) (pow-pos 1074) n (q * 2 ^ (j - 1074) * l)
-    (e
-    ∙ ap (λ (z : ℕ). q * z * l) (sym (pow-split (j - 1074) 1074 j (back j 1074 b)))
-    ∙ ap (λ (z : ℕ). z * l) (sym (mul-assoc q (2 ^ (j - 1074)) (2 ^ 1074)))
-    ∙ mul-right-comm (q * 2 ^ (j - 1074)) (2 ^ 1074) l)
 
 trunc-large : (x : Float) → T (fits binary64 x) → T (not (isNan x)) → 2 ^ 52 ≤ wholePart x → x ≡ trunc x
 unfolding isNan

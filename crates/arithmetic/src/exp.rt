@@ -6,7 +6,7 @@ ghost use lib.Dec.{T};
 ghost use lib.Ieee.{binary64, minus, mul};
 ghost use lib.Ieee.Exact.{HasValue};
 ghost use Rattle.arithmetic.specs.Exp.{halfAway, reduced, scaleB, exp};
-ghost use Rattle.arithmetic.specs.Internal.Exp.{inFastRange, clearOfTie};
+ghost use Rattle.arithmetic.specs.Internal.Exp.{nearZero, inFastRange, clearOfTie};
 use super::basic::signed_integer;
 use super::basic::whole_part;
 use super::format::FRACTION_DIGITS;
@@ -46,6 +46,9 @@ const EXPONENT_OFFSET: u64 = 1075;
 const LAST_EXPONENT: u64 = 2099;
 
 const LAST_POWER: u64 = 2098;
+
+// For an x of smaller magnitude, 11/32, k is 0: |x| / ln 2 is below 1/2.
+const NEAR_ZERO: f64 = 0.34375;
 
 // For an x of smaller magnitude 2^k is a normal number.
 const FAST_LIMIT: f64 = 708.0;
@@ -142,6 +145,23 @@ fn general(x: f64) -> f64
     )
 }
 
+// Whether x is so near 0 that k is 0.
+fn is_near_zero(x: f64) -> bool
+    ensures { λ r. ⌜ r ≡ nearZero x ⌝ }
+{
+    (x < NEAR_ZERO) & (-NEAR_ZERO < x)
+}
+
+// e^x of an x near 0: `reduced` with a k of 0, where h is x and l is 0, so that (l - y) - h is -(y + h).
+fn near_zero(x: f64) -> f64
+    requires { ⌜ T (nearZero x) ⌝ }
+    ensures { λ r. ⌜ r ≡ exp x ⌝ }
+{
+    let q = x * x;
+    let c = x - q * (P1 + q * (P2 + q * (P3 + q * (P4 + q * P5))));
+    1.0 + ((x * c) / (2.0 - c) + x)
+}
+
 // Whether x is so far from the ends of the range that 2^k is a normal number, and no result overflows or is subnormal.
 fn is_in_fast_range(x: f64) -> bool
     ensures { λ r. ⌜ r ≡ inFastRange x ⌝ }
@@ -172,6 +192,9 @@ fn fast(x: f64) -> f64
 pub fn exp(x: f64) -> f64
     ensures { λ r. ⌜ r ≡ exp x ⌝ }
 {
+    if is_near_zero(x) {
+        return near_zero(x);
+    }
     if is_in_fast_range(x) {
         if is_clear_of_tie(x) {
             return fast(x);

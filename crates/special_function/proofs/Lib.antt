@@ -1,2 +1,4 @@
 -- Laws that only the proofs of this crate need.
 pub mod AsymptoticSum
+pub mod PowerTable
+pub mod Sixteenths

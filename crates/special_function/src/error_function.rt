@@ -8,6 +8,7 @@ use crate::normal_distribution::U_MAX;
 use crate::normal_distribution::inverse_norm_cdf_for_low_probabilities;
 use crate::normal_distribution::inverse_norm_cdfm_half_for_midrange_probabilities;
 use crate::polynomial::evaluate;
+use crate::power_table::power_at;
 use arithmetic::basic::abs;
 use arithmetic::basic::recip;
 use arithmetic::basic::signum;
@@ -98,9 +99,24 @@ fn pq(z: f64) -> f64
     z * evaluate(p[5], &p[0..5], z) / evaluate(z + q[0], &q[1..5], z)
 }
 
+// 3 * 2^47. A sum with this is rounded to a multiple of 1/16, which the last digits of its pattern count.
+const SIXTEENTHS: f64 = 422212465065984.0;
+
+// Up to here the table has the first exponential.
+const TABLE_END: f64 = 2.75;
+
+// y less half a sixteenth is rounded to a y_tilde: y cut to a multiple of 1/16, or near such a multiple perhaps the one beside it.
 fn smoothened_exponential_of_negative_square(y: f64) -> f64
     ensures { λ r. ⌜ r ≡ smoothenedExponentialOfNegativeSquare y ⌝ }
 {
+    if (THRESHOLD < y) & (y < TABLE_END) {
+        let t = y - 0.03125 + SIXTEENTHS;
+        let y_tilde = t - SIXTEENTHS;
+        let rest = y - y_tilde;
+        if (y_tilde <= y) & (rest < 0.0625) {
+            return power_at(f64::to_bits(t) % 64) * exp(-rest * (y + y_tilde));
+        }
+    }
     let y_tilde = trunc(y * 16.0) * 0.0625;
     exp_product(-(y_tilde * y_tilde), -(y - y_tilde) * (y + y_tilde))
 }

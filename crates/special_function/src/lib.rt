@@ -3,3 +3,4 @@ pub mod constants;
 pub mod error_function;
 pub mod normal_distribution;
 pub mod polynomial;
+mod power_table;

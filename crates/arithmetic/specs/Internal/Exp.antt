@@ -1,8 +1,15 @@
--- The tests `is_in_fast_range` and `is_clear_of_tie` of `exp`, and the sum from which its fast path takes k. Definitions only.
+-- The tests `is_near_zero`, `is_in_fast_range` and `is_clear_of_tie` of `exp`, and the sum from which its fast path takes k. Definitions only.
 use mathlib.Core.Bool.{Bool, _&&_}
 use lib.Ieee.{Float, lt, neg}
 use Rattle.arithmetic.specs.Operations.{_⊕_, _⊖_, _⊗_, bits}
 use Rattle.arithmetic.specs.Exp.{invLn2}
+
+-- 11 / 32: for an x of smaller magnitude k is 0
+abbrev pub nearLimit : Float
+nearLimit = bits 0x3FD6_0000_0000_0000
+
+abbrev pub nearZero : Float → Bool
+nearZero x = lt x nearLimit && lt (neg nearLimit) x
 
 -- 708: for an x of smaller magnitude 2 ^ k is a normal number
 abbrev pub fastLimit : Float

@@ -150,8 +150,9 @@ k-of s n = round binary64 s n 1
 k-value : (s : Bool) (n : ℕ) → n ≤ 2000 → HasValue (k-of s n) s n 1
 k-value s n h = grain s n 0 (short (omega arith)) zero-le
 
-k-times : (s : Bool) (n : ℕ) → n ≤ 2000 → (p : Float) (b d : ℕ) → 0 < b → 0 < d → HasValue p false b d → k-of s n ⊗ p ≡ round binary64 s (n * b) d
-k-times s n h p b d B D v =
+pub whole-times : (s : Bool) (n : ℕ) → n ≤ 2000 → (p : Float) (b d : ℕ) → 0 < b → 0 < d → HasValue p false b d
+    → round binary64 s n 1 ⊗ p ≡ round binary64 s (n * b) d
+whole-times s n h p b d B D v =
     let k = k-of s n in
     let K = k-value s n h in
     times-fraction k p b d (has-finite k s n 1 K) B D v
@@ -163,12 +164,12 @@ k-times s n h p b d B D v =
 
 high-product : (s : Bool) (n : ℕ) → n ≤ 2000 → HasValue (k-of s n ⊗ ln2Hi) s (n * 2977044471) 4294967296
 high-product s n h =
-    subst (λ (z : Float). HasValue z s (n * 2977044471) 4294967296) (sym (k-times s n h ln2Hi 2977044471 4294967296 (lit≤ tt) (lit≤ tt) hi-value))
+    subst (λ (z : Float). HasValue z s (n * 2977044471) 4294967296) (sym (whole-times s n h ln2Hi 2977044471 4294967296 (lit≤ tt) (lit≤ tt) hi-value))
     (grain s (n * 2977044471) 32 (lt-of-le-of-lt (mul-le-mul-right 2977044471 h) (lit≤ tt)) (lit≤ tt))
 
 low-product : (s : Bool) (n : ℕ) → n ≤ 2000 → Size 1 (k-of s n ⊗ ln2Lo)
 low-product s n h =
-    subst (Size 1) (sym (k-times s n h ln2Lo 3691024475790907 (2 ^ 84) (lit≤ tt) (pow-pos 84) lo-value))
+    subst (Size 1) (sym (whole-times s n h ln2Lo 3691024475790907 (2 ^ 84) (lit≤ tt) (pow-pos 84) lo-value))
     (size-round s (n * 3691024475790907) (2 ^ 84) 1 (pow-pos 84) (short (lit≤ tt))
     (le-trans (mul-le-mul-right 64 (mul-le-mul-right 3691024475790907 h)) (lit≤ tt)))
 

@@ -9,6 +9,7 @@ use mathlib.Core.Bool.{Bool, true, false, not, _&&_, Bool·beq, cond}
 use lib.Dec.{T, ltb}
 use lib.Pow.{pow-pos}
 use lib.Ieee.{Float, Format, low, round, sum, add, sub, neg, fits}
+use lib.Ieee.Exact.{HasValue}
 use lib.Ieee.Fits.{neg-fits}
 use lib.Ieee.Scale.{finite, grid, overflow, round-same}
 use borrow.Author.Tests.{lt-ltb, le-ltb}
@@ -17,7 +18,7 @@ use Rattle.arithmetic.specs.Laws.Numbers.{lt-or-le}
 use Rattle.arithmetic.specs.Laws.Choices.{in-both}
 use Rattle.arithmetic.specs.Laws.Ratio.{ltb-ratio, add-ratio, sub-ratio}
 use Rattle.arithmetic.specs.Basic.{isSignMinus}
-use Rattle.arithmetic.specs.Laws.Times.{Times, both-finite, neg-times, neg-num, neg-den, neg-sign, neg-finite, has-finite}
+use Rattle.arithmetic.specs.Laws.Times.{Times, both-finite, cross, neg-times, neg-num, neg-den, neg-sign, neg-finite, has-sign, has-finite}
 use Rattle.arithmetic.specs.Laws.Rounding.{Whole, round-times, round-value}
 use Rattle.arithmetic.specs.Laws.Representable.{whole, grid-under}
 use Rattle.arithmetic.specs.Laws.Compare.{left-ratio, right-ratio}
@@ -131,6 +132,23 @@ pub difference-is : (f : Format) (x y : Float) → T (finite x) → T (finite y)
     → sub f x y ≡ sum f (isSignMinus x) (num x * den y) (not (isSignMinus y)) (num y * den x) (den x * den y)
 unfolding sub
 difference-is f x y p q = add-is f x (neg y) p (neg-finite y q) ∙ rw (neg-num y, neg-den y, neg-sign y q)
+
+-- by the values of the two over one denominator
+pub sub-values : (f : Format) (x y : Float) (s t : Bool) (a b c : ℕ) → 0 < c → HasValue x s a c → HasValue y t b c → sub f x y ≡ sum f s a (not t) b c
+sub-values f x y s t a b c C X Y =
+    difference-is f x y (has-finite x s a c X) (has-finite y t b c Y)
+    ∙ rw (has-sign x s a c X, has-sign y t b c Y)
+    (sum-same f s (not t) a b c (num x * den y) (num y * den x) (den x * den y) C (mul-pos (den-pos x) (den-pos y))
+    (over (num x) (den x) (den y) a (cross x s a c X))
+    (over (num y) (den y) (den x) b (cross y t b c Y) ∙ ap (λ (z : ℕ). b * z) (mul-comm (den y) (den x))))
+  where
+    over : (n d e a : ℕ) → n * c ≡ a * d → n * e * c ≡ a * (d * e)
+    over n d e a h = mul-right-comm n e c ∙ ap (λ (z : ℕ). z * e) h ∙ mul-assoc a d e
+
+-- of a larger and a smaller
+pub less-smaller : (f : Format) (a b c : ℕ) → b ≤ a → sum f false a true b c ≡ round f false (a - b) c
+unfolding sum
+less-smaller f a b c h = rw (le-ltb a b h)
 
 part-le : (n nx dx dy c : ℕ) → c ≡ dx * dy → n ≤ nx * dy → n * dx ≤ nx * c
 part-le n nx dx dy c e h = le-trans (mul-le-mul-right dx h) (le-of-eq (mul-assoc nx dy dx ∙ ap (λ (z : ℕ). nx * z) (mul-comm dy dx ∙ sym e)))

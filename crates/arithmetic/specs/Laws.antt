@@ -19,6 +19,7 @@ pub mod Identities
 pub mod Zeros
 pub mod Bounds
 pub mod Sizes
+pub mod SumOrder
 pub mod PowerBounds
 pub mod UnitInterval
 pub mod ScaledProducts

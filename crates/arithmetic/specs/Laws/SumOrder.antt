@@ -3,7 +3,7 @@
 use mathlib.Core.Path.{_≡_, refl, sym, ap, _∙_, subst}
 use mathlib.Core.Logic.{_⊎_, inl, inr}
 use Prim.Native.Nat.{ℕ, zero, suc, _+_, _-_, _*_, _≤_, _<_}
-use native.Mathlib.Nat.{zero-mul, mul-pos, mul-le-mul-right, eq-zero-or-pos}
+use native.Mathlib.Nat.{zero-mul, mul-comm, mul-pos, mul-le-mul-right, eq-zero-or-pos}
 use native.Mathlib.Omega.{arith}
 use mathlib.Core.Bool.{Bool, true, false, not, cond, true≢false, false≢true}
 use borrow.Author.Tests.{lt-ltb, le-ltb, ltb-false, ltb-true}
@@ -20,7 +20,7 @@ use Rattle.arithmetic.specs.Laws.Numbers.{lt-or-le}
 use Rattle.arithmetic.specs.Laws.Choices.{never}
 use Rattle.arithmetic.specs.Laws.Times.{both-finite, neg-sign, neg-num, neg-den}
 use Rattle.arithmetic.specs.Laws.Compare.{lt-is, not-le, lt-not-le, lt-is-not-le}
-use Rattle.arithmetic.specs.Laws.Sums.{add-is}
+use Rattle.arithmetic.specs.Laws.Sums.{add-is, sum-swap}
 use Rattle.arithmetic.specs.Laws.Identities.{round-neg}
 use Rattle.arithmetic.specs.Laws.Zeros.{zeroOf, plusZero-is, zero-by-sign, equal-same, plus-zero}
 use Rattle.arithmetic.specs.Laws.Bounds.{round-to-zero}
@@ -143,6 +143,12 @@ add-rounds : (x y : Float) → T (finite x) → T (finite y)
     → Rounds (x ⊕ y) (over x * den y + over y * den x) (under x * den y + under y * den x) (den x * den y)
 add-rounds x y p q = rw (add-is binary64 x y p q) (sum-rounds (isSignMinus x) (isSignMinus y) (num x) (den x) (num y) (den y))
 
+add-swap : (x y : Float) → T (finite x) → T (finite y) → x ⊕ y ≡ y ⊕ x
+add-swap x y p q =
+    add-is binary64 x y p q
+    ∙ sum-swap binary64 (isSignMinus x) (isSignMinus y) (num x * den y) (num y * den x) (den x * den y)
+    ∙ rw (mul-comm (den x) (den y)) (sym (add-is binary64 y x q p))
+
 -- ---- THE SUMS
 module _ (x y : Float) (p : T (finite x)) (q : T (finite y)) (h : NotAbove x y) where
   pub add-order : (c : Float) → T (finite c) → T (le (x ⊕ c) (y ⊕ c))
@@ -154,22 +160,15 @@ module _ (x y : Float) (p : T (finite x)) (q : T (finite y)) (h : NotAbove x y) 
           → (p * c + a * d) * (d' * c) + (n' * c + b * d') * (d * c) ≤ (p' * c + a * d') * (d * c) + (n * c + b * d) * (d' * c)
       go p n d p' n' d' a b c h = omega (arith, mul-le-mul-right (c * c) h)
 
+  -- c may be an infinity
   pub plus-order : (c : Float) → isNan c ≡ false → T (le (c ⊕ x) (c ⊕ y))
   unfolding add le lt eq isNan
   plus-order nan n = absurd (true≢false n)
-  plus-order (inf s) n = both-finite (λ x y. T (le (inf s ⊕ x) (inf s ⊕ y))) (λ _ _ _ _ _ _. itself s) x y p q
-    where
-      itself : (s : Bool) → T (le (inf s) (inf s))
-      itself true = tt
-      itself false = tt
+  plus-order (inf true) n = both-finite (λ x y. T (le (inf true ⊕ x) (inf true ⊕ y))) (λ _ _ _ _ _ _. tt) x y p q
+  plus-order (inf false) n = both-finite (λ x y. T (le (inf false ⊕ x) (inf false ⊕ y))) (λ _ _ _ _ _ _. tt) x y p q
   plus-order (fin s m e) n =
-      let c = fin s m e in
-      rounds-order (c ⊕ x) (c ⊕ y) _ _ _ _ _ _ (mul-pos (den-pos c) (den-pos x)) (mul-pos (den-pos c) (den-pos y)) (add-rounds c x tt p) (add-rounds c y tt q)
-      (go (over x) (under x) (den x) (over y) (under y) (den y) (over c) (under c) (den c) h)
-    where
-      go : (p n d p' n' d' a b c : ℕ) → p * d' + n' * d ≤ p' * d + n * d'
-          → (a * d + p * c) * (c * d') + (b * d' + n' * c) * (c * d) ≤ (a * d' + p' * c) * (c * d) + (b * d + n * c) * (c * d')
-      go p n d p' n' d' a b c h = omega (arith, mul-le-mul-right (c * c) h)
+      subst (λ (z : Float). T (le z (fin s m e ⊕ y))) (add-swap x (fin s m e) p tt)
+      (subst (λ (z : Float). T (le (x ⊕ fin s m e) z)) (add-swap y (fin s m e) q tt) (add-order (fin s m e) tt))
 
 -- ---- with +0 added a value is the same number
 abbrev Kept : Float → Type 0
@@ -187,50 +186,41 @@ zero-kept (fin s zero e) F p = subst Kept (sym (zero-by-sign (fin s zero e) F p 
 zero-kept (fin s (suc m) e) F p = rw (plusZero-is, plus-zero false s m e F) (refl, refl, refl, tt)
 
 -- ---- what lies between a and b, which are equal and below 0, is a
-lowest : (r b : Float) → T (le r b) → T (eq (inf true) b) → inf true ≡ r
-unfolding le lt eq
-lowest r nan h e = absurd e
-lowest r (inf false) h e = absurd e
-lowest r (fin t n d) h e = absurd e
-lowest nan (inf true) h e = absurd h
-lowest (inf true) (inf true) h e = refl
-lowest (inf false) (inf true) h e = absurd h
-lowest (fin s m e) (inf true) h g = absurd h
-
 below-not-zero : (s : Bool) (m : ℕ) (e : ℤ) → lt (fin s m e) plusZero ≡ true → m * up e ≡ 0 → ⊥
 unfolding lt ofBits
 below-not-zero true m e l z = omega (arith, ltb-true 0 (m * up e * 1 + 0 * down e) l)
 below-not-zero false m e l z = omega (arith, ltb-true (m * up e * 1) (0 * down e) l)
 
-module _ (s : Bool) (m : ℕ) (e : ℤ) where
-  abbrev a : Float
-  a = fin s m e
+equal-below : (a b : Float) → T (fits binary64 a) → T (fits binary64 b) → lt a plusZero ≡ true → T (eq a b) → a ≡ b
+unfolding eq lt ofBits
+equal-below nan b A B l h = absurd h
+equal-below (inf false) b A B l h = absurd (false≢true l)
+equal-below (inf true) nan A B l h = absurd h
+equal-below (inf true) (inf false) A B l h = absurd h
+equal-below (inf true) (inf true) A B l h = refl
+equal-below (inf true) (fin t n d) A B l h = absurd h
+equal-below (fin s m e) nan A B l h = absurd h
+equal-below (fin s m e) (inf t) A B l h = absurd h
+equal-below (fin s m e) (fin t n d) A B l h = equal-same (fin s m e) (fin t n d) A B tt tt h (below-not-zero s m e l)
 
-  equal-finite : (b : Float) → T (eq a b) → T (finite b)
-  unfolding eq
-  equal-finite nan g = absurd g
-  equal-finite (inf t) g = absurd g
-  equal-finite (fin t n d) g = tt
+both-ways : (a r : Float) → T (le a r) → T (le r a) → T (eq a r)
+unfolding le lt eq
+both-ways nan r h g = absurd h
+both-ways (inf s) nan h g = absurd h
+both-ways (inf true) (inf true) h g = tt
+both-ways (inf true) (inf false) h g = absurd g
+both-ways (inf false) (inf true) h g = absurd h
+both-ways (inf false) (inf false) h g = tt
+both-ways (inf true) (fin t n d) h g = absurd g
+both-ways (inf false) (fin t n d) h g = absurd h
+both-ways (fin s m e) nan h g = absurd h
+both-ways (fin s m e) (inf true) h g = absurd h
+both-ways (fin s m e) (inf false) h g = absurd g
+both-ways (fin s m e) (fin t n d) h g =
+    let a = fin s m e in
+    let r = fin t n d in
+    rw (lt-is-not-le a r tt tt, is-true (le r a) g) at h
 
-  between-finite : (r : Float) → T (le a r) → T (le r a) → T (finite r)
-  unfolding le lt eq
-  between-finite nan h g = absurd h
-  between-finite (inf true) h g = absurd h
-  between-finite (inf false) h g = absurd g
-  between-finite (fin t n d) h g = tt
-
-  same : (r : Float) → T (fits binary64 a) → T (fits binary64 r) → T (le a r) → T (le r a) → lt a plusZero ≡ true → a ≡ r
-  unfolding le
-  same r A R h g l =
-      let p = between-finite r h g in
-      equal-same a r A R tt p (rw (lt-is-not-le a r tt p, is-true (le r a) g) at h) (below-not-zero s m e l)
-
-pub squeezed : (a r b : Float) → T (fits binary64 a) → T (fits binary64 r) → T (fits binary64 b) → T (le a r) → T (le r b) → T (eq a b)
-    → lt a plusZero ≡ true → a ≡ r
-unfolding lt eq ofBits
-squeezed nan r b A R B h g e l = absurd e
-squeezed (inf true) r b A R B h g e l = lowest r b g e
-squeezed (inf false) r b A R B h g e l = absurd (false≢true l)
-squeezed (fin s m e) r b A R B h g i l =
-    let j : fin s m e ≡ b = equal-same (fin s m e) b A B tt (equal-finite s m e b i) i (below-not-zero s m e l) in
-    same s m e r A R h (rw j g) l
+pub squeezed : (a r b : Float) → T (fits binary64 a) → T (fits binary64 r) → T (fits binary64 b) → lt a plusZero ≡ true
+    → T (le a r) → T (le r b) → T (eq a b) → a ≡ r
+squeezed a r b A R B l h g e = equal-below a r A R l (both-ways a r h (rw (equal-below a b A B l e) g))

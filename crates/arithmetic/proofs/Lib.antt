@@ -16,6 +16,7 @@ mod MaxMin
 mod Integers
 mod ExpGeneral
 mod LnPaths
+mod LnBetween
 mod ExpZeroSign
 mod ExpPower
 mod ExpFast

@@ -20,6 +20,7 @@ pub mod Zeros
 pub mod Bounds
 pub mod Sizes
 pub mod ShiftedSums
+pub mod SumOrder
 pub mod PowerBounds
 pub mod UnitInterval
 pub mod ScaledProducts

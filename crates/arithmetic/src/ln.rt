@@ -1,7 +1,7 @@
 // The natural logarithm of x, and of 1 + u for a u near 0, with fdlibm's coefficients.
 ghost use mathlib.Core.Path.{_≡_};
 ghost use Prim.Native.Nat.{_^_, _≤_};
-ghost use Rattle.arithmetic.specs.Operations.{_⊖_, _⊗_, one};
+ghost use Rattle.arithmetic.specs.Operations.{_⊕_, _⊖_, _⊗_, one};
 ghost use Rattle.arithmetic.specs.Exp.{ln2Lo};
 ghost use Rattle.arithmetic.specs.Ln.{series, ln, ln1p};
 ghost use Rattle.arithmetic.specs.Internal.Ln.{significandOfBits, exponentOfBits};
@@ -122,4 +122,27 @@ pub fn ln_1p(u: f64) -> f64
         return 0.0 / 0.0;
     }
     0.0 / 0.0
+}
+
+// 2^-17 and 2^-15: for a u below the first in size the third power of u, and what follows it in the series, come to less
+// than the second times the square of u.
+const PLUS_LN_LIMIT: f64 = 0.00000762939453125;
+
+const PLUS_LN_SHARE: f64 = 0.000030517578125;
+
+// y + ln(1 + u), each rounded. The logarithm of a u near 0 lies between two values that take less time to compute; where
+// both give the same sum, it is the sum.
+pub fn plus_ln_1p(y: f64, u: f64) -> f64
+    ensures { λ r. ⌜ r ≡ y ⊕ ln1p u ⌝ }
+{
+    if (u < PLUS_LN_LIMIT) & (-PLUS_LN_LIMIT < u) {
+        let g = (0.5 * u) * u;
+        let h = u * u * PLUS_LN_SHARE;
+        let least = y + ((-h - g) + u);
+        let most = y + ((h - g) + u);
+        if (least == most) & (least < 0.0) {
+            return least;
+        }
+    }
+    y + ln_1p(u)
 }

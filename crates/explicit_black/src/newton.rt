@@ -13,7 +13,7 @@ use arithmetic::basic::signum;
 use arithmetic::constants::MIN_POSITIVE;
 use arithmetic::exp::exp;
 use arithmetic::ln::ln;
-use arithmetic::ln::ln_1p;
+use arithmetic::ln::plus_ln_1p;
 use arithmetic::sqrt::sqrt;
 use special_function::normal_distribution::inverse_norm_cdf;
 ghost use mathlib.Core.Path.{_≡_};
@@ -219,7 +219,7 @@ fn numerator(cdf: f64, probability: f64, log_probability: f64) -> f64
         let delta_log_probability = log_probability - ln(cdf);
         if abs(delta_log_probability) < 1.0e-5 {
             return delta_log_probability
-                * exp(log_probability + ln_1p(-0.5 * delta_log_probability));
+                * exp(plus_ln_1p(log_probability, -0.5 * delta_log_probability));
         }
         return probability - cdf;
     }

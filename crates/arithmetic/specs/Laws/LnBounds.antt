@@ -94,7 +94,8 @@ exponent-size x p F =
     integer-size (place a) (le-trans (place-le a) l)
 
 -- ---- the series
-constants : Size 43 G1 × Size 26 G2 × Size 19 G3 × Size 15 G4 × Size 12 G5 × Size 10 G6 × Size 10 G7 × Size 45 ln2Hi × Size 1 ln2Lo × Size 32 half × Size 64 one
+pub constants : Size 43 G1 × Size 26 G2 × Size 19 G3 × Size 15 G4 × Size 12 G5 × Size 10 G6 × Size 10 G7
+    × Size 45 ln2Hi × Size 1 ln2Lo × Size 32 half × Size 64 one
 unfolding ofBits
 constants = (
   size-of 43 G1 tt,

@@ -15,7 +15,7 @@ returns c =
       ← at-abs .abs .ensures,
       at-close .if2 .taken,
       c .exp .ensures,
-      c .before .ln-1p .ensures,
+      c .before .plus-ln-1p .ensures,
     )
 
 returns-2 : tie.Need-returns-2

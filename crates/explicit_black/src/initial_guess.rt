@@ -1,5 +1,5 @@
 // The points where the searches start.
-use arithmetic::format::INFINITY;
+use arithmetic::constants::MAX;
 use arithmetic::mul_add::mul_add;
 use arithmetic::sqrt::sqrt;
 use special_function::normal_distribution::inverse_norm_cdf;
@@ -11,11 +11,7 @@ ghost use Rattle.explicit_black.specs.Curves.{finitePositive, startingPo
 pub fn is_finite_positive(x: f64) -> bool
     ensures { λ r. ⌜ r ≡ finitePositive x ⌝ }
 {
-    if x > 0.0 {
-        x < f64::from_bits(INFINITY)
-    } else {
-        false
-    }
+    if x > 0.0 { x <= MAX } else { false }
 }
 
 pub fn inverse_gaussian_quantile_initial_guess(probability: f64, mu: f64) -> f64

@@ -1,23 +1,27 @@
 -- Rounding keeps the order of magnitudes: what is at most or at least a value of the format rounds to what is; below half of the smallest
--- value it rounds to a zero, and from 2 ^ 1024 on to an infinity. Assumes nothing.
+-- value it rounds to a zero, and from 2 ^ 1024 on to an infinity. No finite value is above `maxFinite`. Assumes nothing.
 use mathlib.Core.Path.{_≡_, refl, sym, ap, _∙_, subst}
+use mathlib.Core.Logic.{inl, inr}
 use Prim.Native.Nat.{ℕ, _-_, _*_, _^_, _≤_, _<_, zero-le}
-use native.Mathlib.Nat.{le-refl, le-trans, le-of-eq, le-of-lt, lt-of-le-of-lt, le-antisymm, mul-one, mul-assoc, div-eq-of-lt}
+use native.Mathlib.Nat.{le-refl, le-trans, le-of-eq, le-of-lt, lt-of-le-of-lt, le-antisymm, mul-one, mul-assoc, mul-right-comm, div-eq-of-lt}
+use native.Mathlib.Nat.{mul-le-mul, mul-le-mul-right, le-of-mul-le-mul-right, lt-of-mul-lt-mul-right}
 use native.Mathlib.Omega.{arith}
 use mathlib.Core.Bool.{Bool, true, false, _&&_, _||_, true≢false}
 use lib.IntN.{pos}
 use lib.Dec.{T, ltb, eqb, ltb→lt, eqb→eq}
-use lib.Pow.{pow-pos}
-use lib.Ieee.{Float, nan, inf, fin, Format, binary64, low, up, down, size, units, round, neg, le, fits}
+use lib.Pow.{pow-pos, pow-mono}
+use lib.Ieee.{Float, nan, inf, fin, Format, binary64, low, up, down, size, units, round, neg, le, fits, ofBits}
 use lib.Ieee.Fits.{round-is}
 use lib.Ieee.Nearest.{closest, closest-mono}
 use lib.Ieee.Order.{transfer, drop, round-mono, le-of-values}
 use lib.Ieee.Scale.{grid, overflow, finite}
 use lib.Ieee.Positive.{num, den, den-pos}
+use Rattle.arithmetic.specs.Operations.{maxFinite}
 use Rattle.arithmetic.specs.Basic.{isSignMinus}
 use Rattle.arithmetic.specs.Laws.Times.{cross, has-sign, has-finite, of-cross, neg-num, neg-den}
 use Rattle.arithmetic.specs.Laws.Rounding.{round-value, round-under}
-use Rattle.arithmetic.specs.Laws.Representable.{round-representable, grid-under}
+use Rattle.arithmetic.specs.Laws.Numbers.{lt-or-le, pow-split}
+use Rattle.arithmetic.specs.Laws.Representable.{representable, round-representable, grid-under}
 use Rattle.arithmetic.specs.Laws.Identities.{round-neg}
 
 -- ---- an order of two values with the sign +, as one of fractions
@@ -114,6 +118,34 @@ pub at-most-le : (v r : Float) → T (finite v) → isSignMinus v ≡ false → 
 at-most-le v r p s h =
     le-of-values r v (num r) (den r) (num v) (den v) (den-pos r) (den-pos v)
     (of-cross r false (num r) (den r) (h .is-finite) (h .sign) refl) (of-cross v false (num v) (den v) p s refl) (h .bound)
+
+-- ---- the largest finite value, 2 ^ 53 - 1 times 2 ^ 971
+most-units : (q k : ℕ) → q < 2 ^ 53 → q * 2 ^ k < 2 ^ 2098 → q * 2 ^ k ≤ 9007199254740991 * 2 ^ 2045
+most-units q k h g = elim (lt-or-le k 2045) [
+  | inl l ↦ mul-le-mul (less q (2 ^ 53) h) (pow-mono (le-of-lt l))
+  | inr l ↦
+      let e : q * 2 ^ (k - 2045) * 2 ^ 2045 ≡ q * 2 ^ k = mul-assoc q (2 ^ (k - 2045)) (2 ^ 2045) ∙ ap (λ (z : ℕ). q * z) (pow-split (k - 2045) 2045 k (omega arith)) in
+      le-trans (le-of-eq (sym e)) (mul-le-mul-right (2 ^ 2045) (less _ (2 ^ 53) (lt-of-mul-lt-mul-right (2 ^ 2045) (lt-of-le-of-lt (le-of-eq e) g))))
+]
+  where
+    less : (q c : ℕ) → q < c → q ≤ c - 1
+    less q c h = omega arith
+
+pub at-most-max : (x : Float) → T (fits binary64 x) → T (finite x) → isSignMinus x ≡ false → T (le x maxFinite)
+unfolding ofBits
+at-most-max x F p s =
+    let o = representable binary64 x F p in
+    let n = o .digits * 2 ^ o .place in
+    let bound : num x * 1 ≤ 9007199254740991 * 2 ^ 971 * den x =
+    le-of-mul-le-mul-right (le-trans (le-of-eq (ap (λ (z : ℕ). z * 2 ^ 1074) (mul-one (num x)) ∙ o .exact))
+    (le-trans (mul-le-mul-right (den x) (most-units (o .digits) (o .place) (o .few) (o .under))) (le-of-eq (scale (den x))))) (pow-pos 1074) in
+    le-of-values x maxFinite (num x) (den x) (9007199254740991 * 2 ^ 971) 1 (den-pos x) (pow-pos 0)
+    (of-cross x false (num x) (den x) p s refl) (refl, refl) bound
+  where
+    scale : (d : ℕ) → 9007199254740991 * 2 ^ 2045 * d ≡ 9007199254740991 * 2 ^ 971 * d * 2 ^ 1074
+    scale d =
+        ap (λ (z : ℕ). z * d) (ap (λ (z : ℕ). 9007199254740991 * z) (sym (pow-split 971 1074 2045 refl)) ∙ sym (mul-assoc 9007199254740991 (2 ^ 971) (2 ^ 1074)))
+        ∙ mul-right-comm (9007199254740991 * 2 ^ 971) (2 ^ 1074) d
 
 -- ---- what rounds to a zero, and what to an infinity
 tie-zero : closest 1 2 ≡ 0

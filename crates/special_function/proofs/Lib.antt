@@ -1,4 +1,3 @@
 -- Laws that only the proofs of this crate need.
 pub mod AsymptoticSum
-pub mod PowerTable
 pub mod Sixteenths

@@ -4,7 +4,7 @@ use mathlib.Core.Path.{_≡_, refl, sym, ap, _∙_, subst}
 use mathlib.Core.Bool.{not, true, false, _&&_, false≢true}
 use mathlib.Core.Logic.{inl, inr}
 use Prim.Native.Nat.{ℕ, _+_, _-_, _*_, _/_, _%_, _≤_, _<_}
-use native.Mathlib.Nat.{le-antisymm, le-div-iff-mul-le, div-lt-iff-lt-mul, mul-pos, mul-assoc, mul-one, lt-of-mul-lt-mul-right}
+use native.Mathlib.Nat.{le-div-iff-mul-le, div-lt-iff-lt-mul, mul-pos, mul-assoc, mul-one, lt-of-mul-lt-mul-right}
 use native.Mathlib.Omega.{arith}
 use borrow.Author.Tests.{ltb-true}
 use lib.IntN.{ℤ, negsuc}
@@ -160,7 +160,8 @@ module _ (y : Float) (F : T (fits binary64 y)) (b : InTable y) where
   rest-is h =
       ap (λ (z : Float). y ⊖ z) cut-is
       ∙ sub-values binary64 y (sixteenths j) false false (n * 16) (j * d) (d * 16) (mul-pos (den-pos y) (pow-pos 4))
-      (of-cross y false (n * 16) (d * 16) (b .is-finite) (b .sign) (over n d)) (rescale (sixteenths j) false j 16 (j * d) (d * 16) (pow-pos 4) (mul-assoc j d 16) j-value)
+      (of-cross y false (n * 16) (d * 16) (b .is-finite) (b .sign) (over n d))
+      (rescale (sixteenths j) false j 16 (j * d) (d * 16) (pow-pos 4) (mul-assoc j d 16) j-value)
       ∙ less-smaller binary64 (n * 16) (j * d) (d * 16) h
     where
       over : (n d : ℕ) → n * (d * 16) ≡ n * 16 * d
@@ -205,13 +206,10 @@ module _ (y : Float) (F : T (fits binary64 y)) (b : InTable y) where
       let x = sixteen-times in
       let part : num w / den w ≡ j =
       div-same (num w) (den w) (n * 16) d (den-pos w) (den-pos y) (x .2)
-      ∙ le-antisymm (le-of-lt-suc (div-lt-iff-lt-mul (den-pos y) .1 h)) (le-div-iff-mul-le (den-pos y) .1 l) in
+      ∙ omega (arith, div-lt-iff-lt-mul (den-pos y) .1 h, le-div-iff-mul-le (den-pos y) .1 l) in
       ap (λ (k : Float). k ⊗ sixteenth) (trunc-is w (x .0) ∙ rw (x .1, part))
       ∙ whole-times false j (omega (arith, sum-shifted .most)) sixteenth 1 16 (lit≤ tt) (lit≤ tt) sixteenth-value
       ∙ ap (λ (k : ℕ). round binary64 false k 16) (mul-one j)
-    where
-      le-of-lt-suc : {a k : ℕ} → a < k + 1 → a ≤ k
-      le-of-lt-suc h = omega arith
 
   -- ---- so the table has the first exponential
   module _ (h : T (le (cut y) y && lt (y ⊖ cut y) sixteenth)) where

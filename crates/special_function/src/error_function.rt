@@ -105,7 +105,8 @@ const SIXTEENTHS: f64 = 422212465065984.0;
 // Up to here the table has the first exponential.
 const TABLE_END: f64 = 2.75;
 
-// y less half a sixteenth is rounded to a y_tilde: y cut to a multiple of 1/16, or near such a multiple perhaps the one beside it.
+// y_tilde is y cut to a multiple of 1/16. By the sum it is the multiple nearest to y - 1/32, which for a y near a multiple can be the one beside it:
+// the second test tells.
 fn smoothened_exponential_of_negative_square(y: f64) -> f64
     ensures { λ r. ⌜ r ≡ smoothenedExponentialOfNegativeSquare y ⌝ }
 {

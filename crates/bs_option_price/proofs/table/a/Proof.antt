@@ -1,31 +1,20 @@
 -- `table::a` meets its contract: the part of the table in each arm of the match is the definition's row. Assumes nothing.
-use mathlib.Core.Path.{_≡_, _∙_}
-use Prim.Native.Nat.{ℕ, zero, suc, _≤_}
+use mathlib.Core.Path.{_∙_}
+use Prim.Native.Nat.{zero-le}
 use native.Mathlib.Omega.{arith}
 use borrow.Author.Needs.{needs}
+use Rattle.arithmetic.specs.Laws.Choices.{all-passed}
 use Rattle.bs_option_price.specs.Table.{table, row}
 use Rattle.bs_option_price.proofs.Expansion.{row-at}
 use Rattle.bs_option_price.proofs.table.a.Statement.{statement}
 use Rattle.bs_option_price.proofs.table.a.Tie as tie
-
--- k is none of the numbers below n: what the last arm of a match on 0, 1, .. knows
-abbrev Passed : ℕ → ℕ → Type 0
-Passed zero k = Unit
-Passed (suc n) k = Passed n k × (k ≡ n → ⊥)
-
-all-passed : (n k : ℕ) → Passed n k → n ≤ k
-all-passed zero k p = omega arith
-all-passed (suc n) k p = above (all-passed n k (p .0)) (p .1)
-  where
-    above : n ≤ k → (k ≡ n → ⊥) → suc n ≤ k
-    above h g = omega arith
 
 last-row : tie.Need-returns-17
 unfolding table row
 last-row c =
     let after-table = c .before .before in
     let at-match = after-table .before in
-    let at-least-16 = all-passed 16 _ (at-match .match .rest) in
+    let at-least-16 = all-passed 0 16 _ zero-le (at-match .match .rest) in
     c .nested17 .ensures ∙ row-at 16 _ _ (omega (arith, at-match .before .pre))
 
 pub a-spec : {M : Type 1} → statement M

@@ -1,18 +1,22 @@
 -- `power_table::power_at` meets its contract: the literal in each arm of the match is the value that the definition computes. Assumes nothing.
-use mathlib.Core.Path.{_≡_, refl}
+use mathlib.Core.Path.{_≡_, refl, sym, ap, _∙_}
+use Prim.Native.Nat.{ℕ}
 use native.Mathlib.Omega.{arith}
-use lib.Ieee.{mul, neg, ofBits, round}
+use lib.Ieee.{Float, mul, neg, ofBits, round}
 use Rattle.arithmetic.specs.Exp.{exp}
+use Rattle.arithmetic.specs.Laws.Choices.{all-passed}
 use Rattle.special_function.specs.Internal.PowerTable.{powerAt}
-use Rattle.special_function.proofs.PowerTable.{at, all-passed}
 use Rattle.special_function.proofs.power_table.power_at.Statement.{statement}
 use Rattle.special_function.proofs.power_table.power_at.Tie as tie
+
+at : {j k : ℕ} {v : Float} → j ≡ k → v ≡ powerAt k → v ≡ powerAt j
+at e h = h ∙ ap powerAt (sym e)
 
 last : tie.Need-returns-37
 unfolding powerAt exp mul neg ofBits round
 last c =
     let start = c .before in
-    let from-43 = all-passed 36 (start .args .j) (start .pre .0) (c .match .rest) in
+    let from-43 = all-passed 7 36 (start .args .j) (start .pre .0) (c .match .rest) in
     let is-43 : start .args .j ≡ 43 = omega (arith, from-43, start .pre .1) in
     at is-43 refl
 

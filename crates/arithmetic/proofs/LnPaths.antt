@@ -2,7 +2,7 @@
 use mathlib.Core.Path.{_≡_, refl, sym, ap, _∙_, subst}
 use mathlib.Core.Logic.{_⊎_, inl, inr}
 use mathlib.Core.Bool.{Bool, true, false, not, _||_, true≢false, false≢true}
-use Prim.Native.Nat.{ℕ, suc, _+_, _-_, _*_, _^_, _≤_, _<_}
+use Prim.Native.Nat.{ℕ, suc, _+_, _-_, _*_, _/_, _%_, _^_, _≤_, _<_}
 use native.Mathlib.Nat.{le-trans, le-of-eq, mul-le-mul, mul-one, one-mul, mul-comm, mul-assoc, mul-pos, zero-lt-suc}
 use native.Mathlib.Omega.{arith}
 use borrow.Author.Tests.{lt-ltb, le-ltb, le-leb, lt-leb, ltb-false}
@@ -12,6 +12,7 @@ use lib.Pow.{pow-pos}
 use denote.Floats.{passes}
 use lib.Ieee.{Float, nan, inf, fin, binary64, up, down, minus, round, sum, add, sub, mul, ofInt, fits, isNan, lt, eq, le, ne, toBits, ofBits}
 use lib.Ieee.Fits.{down-pos, add-fits}
+use lib.Ieee.Bits.{ofBits-toBits}
 use lib.Ieee.Order.{round-mono}
 use lib.Ieee.Scale.{finite}
 use lib.Ieee.Positive.{num, den, den-pos, positive, positive-finite, first-pos, above-of-le, between, le→cross}
@@ -85,6 +86,10 @@ series-nan f k kl n =
     absorbed s (half ⊗ f ⊗ f) (oddTerms f) (w ⊗ (G2 ⊕ w ⊗ (G4 ⊕ w ⊗ G6))) kl f (k ⊗ H) (is-nan (oddTerms f) n)
 
 -- ---- `ln`, by its tests
+zero-times : plusZero ≡ plusZero ⊗ L
+unfolding ofBits mul
+zero-times = refl
+
 pub positive-no-nan : (x : Float) → T (positive x) → T (not (isNan x))
 positive-no-nan x p = false-not (isNan x) (finite-no-nan x (positive-finite x p))
 
@@ -127,6 +132,28 @@ subnormal-parts x f h l =
 pub ln-parts : (x : Float) (b : ℕ) (r : Float) → T (positive x) → DecomposedBy x b
     → r ≡ series (significandOfBits b ⊖ one) (exponentOfBits b) (exponentOfBits b ⊗ L) → r ≡ ln x
 ln-parts x b r p e h = h ∙ rw (e .m-is, e .k-is) (sym (ln-at x p))
+
+-- from the least m to below its double m is x itself, and k is 0
+module _ (x : Float) (F : T (fits binary64 x)) (lo : 0x3fe6a09e00000000 ≤ toBits binary64 x) (hi : toBits binary64 x < 0x3ff6a09e00000000) where
+  abbrev raisedBits : ℕ
+  raisedBits = toBits binary64 x + 0x340000000000000
+
+  same-significand : significandOfBits raisedBits ≡ x
+  same-significand = ap (ofBits binary64) (go (toBits binary64 x) lo hi) ∙ ofBits-toBits binary64 x F
+    where
+      go : (b : ℕ) → 4604544269498187776 ≤ b → b < 4609047869125558272
+          → (b + 234187180623265792 - 1865450325540864) % 4503599627370496 + 4604544269498187776 ≡ b
+      go b l h = omega arith
+
+  no-exponent : exponentOfBits raisedBits ≡ plusZero
+  unfolding ofInt ofBits
+  no-exponent = rw (go (toBits binary64 x) lo hi) refl
+    where
+      go : (b : ℕ) → 4604544269498187776 ≤ b → b < 4609047869125558272 → (b + 234187180623265792 - 1865450325540864) / 4503599627370496 ≡ 1074
+      go b l h = omega arith
+
+  pub ln-near-one : (r : Float) → NormalParts x → r ≡ series (x ⊖ one) plusZero plusZero → r ≡ ln x
+  ln-near-one r p h = ln-parts x raisedBits r (p .0) (p .1) (h ∙ rw (same-significand, no-exponent, ← zero-times) refl)
 
 pub ln-infinity : (x : Float) → le minPositive x ≡ true → lt x infinity ≡ false → x ≡ ln x
 unfolding ln ofBits lt le

@@ -28,8 +28,10 @@ const G6: f64 = 1.531383769920937332e-01;
 
 const G7: f64 = 1.479819860511658591e-01;
 
-// The pattern of the least m, 741455 / 2^20, a little below √(1/2), and that pattern's fraction.
+// The pattern of the least m, 741455 / 2^20, a little below √(1/2), of its double, and the fraction of both.
 const LEAST_SIGNIFICAND: u64 = 0x3fe6_a09e_0000_0000;
+
+const TWICE_LEAST: u64 = 0x3ff6_a09e_0000_0000;
 
 const LEAST_FRACTION: u64 = 0x0006_a09e_0000_0000;
 
@@ -84,14 +86,18 @@ fn of_pattern(b: u64) -> f64
     series(p.m - 1.0, p.k, p.k * LN2_LO)
 }
 
-// What is nearly always there is tested first. A subnormal x is multiplied by 2^52, and the exponent's field of the
+// What is nearly always there is tested first. Near 1 m is x and k is 0, and nothing waits for the pattern. A subnormal x is multiplied by 2^52, and the exponent's field of the
 // product counts from 52 on.
 pub fn ln(x: f64) -> f64
     ensures { λ r. ⌜ r ≡ ln x ⌝ }
 {
     if MIN_POSITIVE <= x {
         if x < f64::from_bits(INFINITY) {
-            return of_pattern(f64::to_bits(x) + NORMALISER_STEPS);
+            let b = f64::to_bits(x);
+            if (LEAST_SIGNIFICAND <= b) & (b < TWICE_LEAST) {
+                return series(x - 1.0, 0.0, 0.0);
+            }
+            return of_pattern(b + NORMALISER_STEPS);
         }
         return x;
     }

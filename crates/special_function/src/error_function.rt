@@ -186,7 +186,9 @@ fn erfc_above_threshold(y: f64) -> f64
     if y >= XBIG {
         return 0.0;
     }
-    erfcx_cody_above_threshold(y) * smoothened_exponential_of_negative_square(y)
+    // first, since it takes longer
+    let exponential = smoothened_exponential_of_negative_square(y);
+    erfcx_cody_above_threshold(y) * exponential
 }
 
 fn erfcx_cody_above_threshold(y: f64) -> f64

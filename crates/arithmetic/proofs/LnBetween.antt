@@ -1,5 +1,5 @@
--- `ln1p` of a u of at most 2 ^ -17 in size lies between two sums. It is ((s q + 0) - g) + u, then + 0, where s is at most |u| in size, and q, the sum of g and
--- two products of the series, at most 4 v, with v = u u; so s q is at most h = v / 2 ^ 15. Rounding keeps the order at each step. Assumes nothing.
+-- `ln1p` of a u of at most 2 ^ -20 in size lies between two sums. It is ((s q + 0) - g) + u, then + 0, where s is at most |u| in size, and q, the sum of g and
+-- two products of the series, at most 4 v, with v = u u; so s q is at most h = v / 2 ^ 18. Rounding keeps the order at each step. Assumes nothing.
 use mathlib.Core.Path.{_≡_, refl, sym, ap, _∙_, subst}
 use mathlib.Core.Logic.{inr}
 use mathlib.Core.Bool.{Bool, true, false, false≢true}
@@ -33,16 +33,16 @@ use Rattle.arithmetic.specs.Laws.ExpBounds.{two-plus}
 use Rattle.arithmetic.specs.Laws.LnBounds.{constants}
 use Rattle.arithmetic.proofs.LnPaths.{ln1p-low}
 
--- ---- the constants of the code: 2 ^ -17 and 2 ^ -15
+-- ---- the constants of the code: 2 ^ -20 and 2 ^ -18
 abbrev limit : Float
-limit = bits 0x3EE0_0000_0000_0000
+limit = bits 0x3EB0_0000_0000_0000
 
 abbrev share : Float
-share = bits 0x3F00_0000_0000_0000
+share = bits 0x3ED0_0000_0000_0000
 
-share-parts : (num share ≡ 1) × (den share ≡ 32768) × Between 15 0 share × Size 1 share × Size 0 plusZero
+share-parts : (num share ≡ 1) × (den share ≡ 262144) × Between 18 0 share × Size 1 share × Size 0 plusZero
 unfolding ofBits
-share-parts = (refl, refl, between-of 15 0 share tt, size-of 1 share tt, size-of 0 plusZero tt)
+share-parts = (refl, refl, between-of 18 0 share tt, size-of 1 share tt, size-of 0 plusZero tt)
 
 zero-product : plusZero ⊗ ln2Hi ≡ plusZero
 unfolding ofBits mul
@@ -94,7 +94,7 @@ module _ (v : Float) (F : T (fits binary64 v)) (S : Size 64 v) where
       go : (n d m e a p b r : ℕ) → n * b * e ≤ a * p * d * e → m * b * d ≤ a * p * e * d → r * b ≤ (n * e + m * d) * b → r * b ≤ a * (p * 2) * (d * e)
       go n d m e a p b r h g l = omega arith
 
--- ---- of two products the one that is no larger before rounding is no larger after it; these are of sizes that do not overflow
+-- ---- of two finite products the one that is no larger before rounding is no larger after it
 product-order : {i j k l : ℕ} {x y a b : Float} → Size i x → Size j y → Size k a → Size l b → T (finite (x ⊗ y)) → T (finite (a ⊗ b))
     → num x * num y * (den a * den b) ≤ num a * num b * (den x * den y) → NoLarger (a ⊗ b) (x ⊗ y)
 product-order {x = x} {y = y} {a = a} {b = b} p q r s t u h =
@@ -111,15 +111,15 @@ product-order {x = x} {y = y} {a = a} {b = b} p q r s t u h =
 -- ---- what the tests of the code say
 pub record Near (u : Float) : Type 0 where
   pub is-finite : T (finite u)
-  pub bound : num u * 131072 ≤ 1 * den u
+  pub bound : num u * 1048576 ≤ 1 * den u
 
 pub near : (u : Float) → lt u limit ≡ true → lt (neg limit) u ≡ true → Near u
 unfolding lt neg ofBits
 near nan h g = absurd (false≢true h)
 near (inf true) h g = absurd (false≢true g)
 near (inf false) h g = absurd (false≢true h)
-near (fin true m e) h g = record { is-finite = tt; bound = omega (arith, ltb-true (m * up e * 131072) (1 * down e) g) }
-near (fin false m e) h g = record { is-finite = tt; bound = omega (arith, ltb-true (m * up e * 131072) (1 * down e) h) }
+near (fin true m e) h g = record { is-finite = tt; bound = omega (arith, ltb-true (m * up e * 1048576) (1 * down e) g) }
+near (fin false m e) h g = record { is-finite = tt; bound = omega (arith, ltb-true (m * up e * 1048576) (1 * down e) h) }
 
 -- so the definition takes the series at u itself
 in-range : (u : Float) → Near u → (fromLeast u ≡ true) × (toMost u ≡ true) × (lt u (bits 0x3FDA_0000_0000_0000) ≡ true)
@@ -174,18 +174,18 @@ module _ (u : Float) (F : T (fits binary64 u)) (N : Near u) where
   abbrev q : Float
   q = g ⊕ (z ⊗ (G1 ⊕ w ⊗ (G3 ⊕ w ⊗ (G5 ⊕ w ⊗ G7))) ⊕ w ⊗ (G2 ⊕ w ⊗ (G4 ⊕ w ⊗ G6)))
 
-  -- what is at most u in size, and what is at most v
+  -- what is at most u in size, and products of two such: at most v
   u1 : Size 1 u
   u1 = record { is-finite = N .is-finite; bound = go (num u) (den u) (N .bound) }
     where
-      go : (n d : ℕ) → n * 131072 ≤ 1 * d → n * 64 ≤ 1 * d
+      go : (n d : ℕ) → n * 1048576 ≤ 1 * d → n * 64 ≤ 1 * d
       go n d h = omega arith
 
   itself : NoLarger u u
   itself = record { is-finite = N .is-finite; bound = le-refl _ }
 
-  s-least : NoLarger u s
-  s-least = let d = two-plus u (size-widen 64 u1 (lit≤ tt)) in no-larger-div u u (two ⊕ u) F (N .is-finite) itself (d .0) (d .1)
+  s-at-most : NoLarger u s
+  s-at-most = let d = two-plus u (size-widen 64 u1 (lit≤ tt)) in no-larger-div u u (two ⊕ u) F (N .is-finite) itself (d .0) (d .1)
 
   halved : NoLarger u (half ⊗ u)
   halved = subst (NoLarger u) (mul-swap binary64 u half) (no-larger-mul u half F (N .is-finite) (size-widen 64 (constants .9) (lit≤ tt)))
@@ -214,7 +214,7 @@ module _ (u : Float) (F : T (fits binary64 u)) (N : Near u) where
   q-bounds : Within v 2 q × Size 3 q
   q-bounds =
       let (c1, c2, c3, c4, c5, c6, c7, _, _, _, _) = constants in
-      let z1 : Size 1 z = fewer (small s-least) (small s-least) (lit≤ tt) in
+      let z1 : Size 1 z = fewer (small s-at-most) (small s-at-most) (lit≤ tt) in
       let w1 : Size 1 w = fewer z1 z1 (lit≤ tt) in
       let r5 : Size 13 _ = step c5 w1 c7 (lit≤ tt) (lit≤ tt) in
       let r3 : Size 20 _ = step c3 w1 r5 (lit≤ tt) (lit≤ tt) in
@@ -223,7 +223,7 @@ module _ (u : Float) (F : T (fits binary64 u)) (N : Near u) where
       let r2 : Size 27 _ = step c2 w1 r4 (lit≤ tt) (lit≤ tt) in
       let F' = mul-fits binary64 u u in
       let v64 = size-widen 64 v1 (lit≤ tt) in
-      let Z : Within v 0 z = squared 0 s s s-least s-least in
+      let Z : Within v 0 z = squared 0 s s s-at-most s-at-most in
       let W : Within v 0 w = within-mul v F' v64 Z z1 (lit≤ tt) (lit≤ tt) in
       let R : Within v 1 _ = within-add v F' v64 (within-mul v F' v64 Z r1 (lit≤ tt) (lit≤ tt)) (within-mul v F' v64 W r2 (lit≤ tt) (lit≤ tt)) (lit≤ tt) in (
         within-add v F' v64 (squared 1 (half ⊗ u) u halved itself) R (lit≤ tt),
@@ -234,14 +234,14 @@ module _ (u : Float) (F : T (fits binary64 u)) (N : Near u) where
   h1 : Size 1 h
   h1 = fewer v1 (share-parts .3) (lit≤ tt)
 
-  product-least : NoLarger h (s ⊗ q)
-  product-least =
-      product-order (small s-least) (q-bounds .1) v1 (share-parts .3) (fewer (small s-least) (q-bounds .1) (lit≤ tt) .is-finite) (h1 .is-finite)
+  product-at-most : NoLarger h (s ⊗ q)
+  product-at-most =
+      product-order (small s-at-most) (q-bounds .1) v1 (share-parts .3) (fewer (small s-at-most) (q-bounds .1) (lit≤ tt) .is-finite) (h1 .is-finite)
       (rw (share-parts .0, share-parts .1)
       (go (num s) (den s) (num q) (den q) (num v) (den v)
-      (mul-le-mul (through (num s) (num u) 1 (den s) (den u) 131072 (den-pos u) (s-least .bound) (N .bound)) (q-bounds .0 .bound))))
+      (mul-le-mul (through (num s) (num u) 1 (den s) (den u) 1048576 (den-pos u) (s-at-most .bound) (N .bound)) (q-bounds .0 .bound))))
     where
-      go : (n d m e a b : ℕ) → n * 131072 * (m * b) ≤ 1 * d * (a * 4 * e) → n * m * (b * 32768) ≤ a * 1 * (d * e)
+      go : (n d m e a b : ℕ) → n * 1048576 * (m * b) ≤ 1 * d * (a * 4 * e) → n * m * (b * 262144) ≤ a * 1 * (d * e)
       go n d m e a b h = omega arith
 
   -- the order of l and m goes through the difference with g and the sum with u
@@ -268,13 +268,13 @@ module _ (u : Float) (F : T (fits binary64 u)) (N : Near u) where
   inner = s ⊗ q ⊕ plusZero ⊖ g ⊕ u
 
   product1 : Size 1 (s ⊗ q ⊕ plusZero)
-  product1 = size-add (no-larger-size h1 product-least) (share-parts .4) (short (lit≤ tt))
+  product1 = size-add (no-larger-size h1 product-at-most) (share-parts .4) (short (lit≤ tt))
 
   inner-between : NotAbove lower inner × NotAbove inner upper
   inner-between =
       let plus = plus-mul (small-square (size-small 0 u1 (lit≤ tt)) (lit≤ tt)) (share-parts .2 .plus) (lit≤ tt) .sign in
-      let o = within-size h (s ⊗ q) (h1 .is-finite) plus product-least in
-      let k = zero-kept (s ⊗ q) (mul-fits binary64 s q) (product-least .is-finite) in (
+      let o = within-size h (s ⊗ q) (h1 .is-finite) plus product-at-most in
+      let k = zero-kept (s ⊗ q) (mul-fits binary64 s q) (product-at-most .is-finite) in (
         shifted (neg h) (s ⊗ q ⊕ plusZero) (size-neg h1) product1 (rw (k .0, k .1, k .2) (o .0)),
         shifted (s ⊗ q ⊕ plusZero) h product1 h1 (rw (k .0, k .1, k .2) (o .1)),
       )

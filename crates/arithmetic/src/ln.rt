@@ -130,11 +130,10 @@ pub fn ln_1p(u: f64) -> f64
     0.0 / 0.0
 }
 
-// 2^-17 and 2^-15: for a u below the first in size the third power of u, and what follows it in the series, come to less
-// than the second times the square of u.
-const PLUS_LN_LIMIT: f64 = 0.00000762939453125;
+// 2^-20, and 2^-18: of a u below the first in size, what the series adds to u - u²/2 is at most the second times u².
+const PLUS_LN_LIMIT: f64 = 0.00000095367431640625;
 
-const PLUS_LN_SHARE: f64 = 0.000030517578125;
+const PLUS_LN_SHARE: f64 = 0.000003814697265625;
 
 // y + ln(1 + u), each rounded. The logarithm of a u near 0 lies between two values that take less time to compute; where
 // both give the same sum, it is the sum.

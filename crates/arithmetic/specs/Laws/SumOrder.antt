@@ -50,8 +50,7 @@ le-not-above x y p q h =
 
 -- what is no larger than h in size lies from -h to h
 pub within-size : (h t : Float) → T (finite h) → isSignMinus h ≡ false → NoLarger h t → NotAbove (neg h) t × NotAbove t h
-within-size h t p s l =
-    rw (neg-sign h p, neg-num h, neg-den h, s) (go (isSignMinus t) (num t) (den t) (num h) (den h) (l .bound))
+within-size h t p s l = rw (neg-sign h p, neg-num h, neg-den h, s) (go (isSignMinus t) (num t) (den t) (num h) (den h) (l .bound))
   where
     go : (s : Bool) (n d m e : ℕ) → n * e ≤ m * d
         → (0 * d + cond s n 0 * e ≤ cond s 0 n * e + m * d) × (cond s 0 n * e + 0 * d ≤ m * d + cond s n 0 * e)
@@ -105,8 +104,7 @@ none d c e C h = elim (eq-zero-or-pos d) [ inl z ↦ z | inr l ↦ absurd (omega
 
 zeros : (d c e b : ℕ) → 0 < c → 0 < b → d ≡ 0 → e ≡ 0 → T (le (round binary64 false d c) (round binary64 true e b))
 unfolding le lt eq
-zeros d c e b C B p q =
-    rw (p, q, round-to-zero false 0 c C, round-to-zero true 0 b B) tt
+zeros d c e b C B p q = rw (p, q, round-to-zero false 0 c C, round-to-zero true 0 b B) tt
 
 rounds-order : (z z' : Float) (p n c p' n' c' : ℕ) → 0 < c → 0 < c' → Rounds z p n c → Rounds z' p' n' c' → p * c' + n' * c ≤ p' * c + n * c'
     → T (le z z')

@@ -25,10 +25,8 @@ const INDEX_STEP: u64 = 0x4000_0000_0000;
 
 const INDICES: u64 = 128;
 
-// The pattern of 1/2, and of the middle of the interval that begins there.
+// The pattern of 1/2.
 const HALF: u64 = 0x3fe0_0000_0000_0000;
-
-const FIRST_MIDDLE: u64 = 0x3fe0_2000_0000_0000;
 
 // (BIAS + 1) / 2: for x = z * 4^j with z from 1/2 to 2, half the field of x and this are the field of 2^j.
 const HALF_BIAS: u64 = 512;
@@ -111,28 +109,23 @@ fn closest(w: u64, q: u64) -> u64
 }
 
 // An estimate of √x for the normal x above 0 with pattern b: the nearest f64 for all but about 1 in 720, and no proof
-// asks it to be. With x = z * 4^j for a z from 1/2 to 2, c the middle of the interval that z lies in and h = (z - c) / (4c),
-// √z is √c + 2√c * h * (1 - h + 2h² - 5h³ + ..); z - c is exact, and |h| is below 2^-9. The pattern gives c as it gives z,
-// so that z - c waits for no table. The four places are read first: after other steps the compiler would branch by i.
+// asks it to be. With x = z * 4^j for a z from 1/2 to 2, s from the table and h = (z - s²) / (4s²), √z is
+// s + 2sh * (1 - h + 2h² - 5h³ + ..); z - s² is exact, and |h| is below 2^-9.
 fn estimate(b: u64) -> f64
     requires { ⌜ b < 0x7ff0_0000_0000_0000 ⌝ }
 {
     let i = b / INDEX_STEP % INDICES;
-    let share = root_table::share(i);
-    let slope = root_table::slope(i);
-    let root = root_table::root(i);
-    let rest = root_table::rest(i);
     let z = f64::from_bits(b % TWO_TO_53 + HALF);
-    let c = f64::from_bits(b % TWO_TO_53 - b % INDEX_STEP + FIRST_MIDDLE);
     let scale = f64::from_bits((b / TWO_TO_53 + HALF_BIAS) * TWO_TO_52);
-    let d = z - c;
-    let h = d * share;
-    let t = d * scale * slope;
+    let slope = root_table::slope(i);
+    let d = z - root_table::square(i);
+    let h = d * (slope * slope);
+    let t = d * (slope * scale);
     let h2 = h * h;
     let th = t * h;
-    let near = (t + rest * scale) + th * (1.999999999418098 * h - 1.0);
-    root * scale
-        + (near + th * h2 * ((14.000619730819725 * h - 4.999999996596067) - 42.00241684694429 * h2))
+    let near = t + th * (1.9999999994180802 * h - 1.0);
+    let far = (14.000619740340511 * h - 4.999999996595962) - 42.00241688407218 * h2;
+    root_table::root(i) * scale + (near + th * h2 * far)
 }
 
 // The root of the normal x above 0 with pattern b.

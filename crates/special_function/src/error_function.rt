@@ -186,9 +186,7 @@ fn erfc_above_threshold(y: f64) -> f64
     if y >= XBIG {
         return 0.0;
     }
-    // first, since it takes longer
-    let exponential = smoothened_exponential_of_negative_square(y);
-    erfcx_cody_above_threshold(y) * exponential
+    erfcx_cody_above_threshold(y) * smoothened_exponential_of_negative_square(y)
 }
 
 fn erfcx_cody_above_threshold(y: f64) -> f64

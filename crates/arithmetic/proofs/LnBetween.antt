@@ -6,8 +6,9 @@ use mathlib.Core.Bool.{Bool, true, false, false≢true}
 use Prim.Native.Nat.{ℕ, suc, _+_, _*_, _^_, _≤_, _<_}
 use native.Mathlib.Nat.{le-refl, le-trans, mul-assoc, mul-pos, mul-le-mul, mul-le-mul-right, pow-suc}
 use native.Mathlib.Omega.{arith}
-use borrow.Author.Tests.{ltb-true, lt-ltb}
+use borrow.Author.Tests.{lt-ltb}
 use denote.Floats.{passes}
+use lib.IntN.{negsuc}
 use lib.Dec.{T, lit≤}
 use lib.Pow.{pow-pos}
 use lib.Ieee.{Float, nan, inf, fin, binary64, up, down, unlike, round, sub, mul, add, neg, lt, eq, le, fits, isNan, ofBits}
@@ -31,6 +32,7 @@ use Rattle.arithmetic.specs.Laws.SumOrder.{NotAbove, le-not-above, withi
 use Rattle.arithmetic.specs.Laws.PowerBounds.{size-small, small-round, small-square, plus-mul, Between, between-of}
 use Rattle.arithmetic.specs.Laws.ExpBounds.{two-plus}
 use Rattle.arithmetic.specs.Laws.LnBounds.{constants}
+use Rattle.arithmetic.proofs.ExpFast.{between-limits}
 use Rattle.arithmetic.proofs.LnPaths.{ln1p-low}
 
 -- ---- the constants of the code: 2 ^ -20 and 2 ^ -18
@@ -114,12 +116,8 @@ pub record Near (u : Float) : Type 0 where
   pub bound : num u * 1048576 ≤ 1 * den u
 
 pub near : (u : Float) → lt u limit ≡ true → lt (neg limit) u ≡ true → Near u
-unfolding lt neg ofBits
-near nan h g = absurd (false≢true h)
-near (inf true) h g = absurd (false≢true g)
-near (inf false) h g = absurd (false≢true h)
-near (fin true m e) h g = record { is-finite = tt; bound = omega (arith, ltb-true (m * up e * 1048576) (1 * down e) g) }
-near (fin false m e) h g = record { is-finite = tt; bound = omega (arith, ltb-true (m * up e * 1048576) (1 * down e) h) }
+unfolding neg ofBits
+near u h g = let b = between-limits u 1 (negsuc 19) h g in record { is-finite = b .0; bound = omega (arith, b .1) }
 
 -- so the definition takes the series at u itself
 in-range : (u : Float) → Near u → (fromLeast u ≡ true) × (toMost u ≡ true) × (lt u (bits 0x3FDA_0000_0000_0000) ≡ true)

@@ -152,7 +152,7 @@ fn is_near_zero(x: f64) -> bool
     (x < NEAR_ZERO) & (-NEAR_ZERO < x)
 }
 
-// e^x of an x near 0: `reduced` with a k of 0, where h is x and l is 0, so that (l - y) - h is -(y + h).
+// e^x of an x near 0: `reduced` with a k of 0, where h is x and l is 0. With d for its quotient, (l - d) - h is -(d + x).
 fn near_zero(x: f64) -> f64
     requires { ⌜ T (nearZero x) ⌝ }
     ensures { λ r. ⌜ r ≡ exp x ⌝ }

@@ -86,8 +86,8 @@ fn of_pattern(b: u64) -> f64
     series(p.m - 1.0, p.k, p.k * LN2_LO)
 }
 
-// What is nearly always there is tested first. Near 1 m is x and k is 0, and nothing waits for the pattern. A subnormal x is multiplied by 2^52, and the exponent's field of the
-// product counts from 52 on.
+// What is nearly always there is tested first. Near 1 m is x and k is 0, and nothing waits for the pattern. A subnormal x
+// is multiplied by 2^52, and the exponent's field of the product counts from 52 on.
 pub fn ln(x: f64) -> f64
     ensures { λ r. ⌜ r ≡ ln x ⌝ }
 {

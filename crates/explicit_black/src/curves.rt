@@ -45,8 +45,8 @@ impl Allowance {
     }
 }
 
-// A value of the distribution, with what the density at the same point needs, √x, a and exp(-0.5 * a * a), and one
-// evaluation fewer; or spent where none was allowed.
+// A value of the distribution, with what `pdf_by_exponential` makes the density at the same point of, and one evaluation
+// fewer; or spent where none was allowed.
 pub enum Evaluation {
     Value {
         cdf: f64,
@@ -120,7 +120,7 @@ pub fn inverse_gaussian_pdf(x: f64, sqrt_x: f64, a: f64) -> f64
 }
 
 // The density at x where also exp(-0.5 * a * a) is at hand.
-pub fn inverse_gaussian_pdf_by_exponential(x: f64, sqrt_x: f64, a: f64, exponential: f64) -> f64
+pub fn pdf_by_exponential(x: f64, sqrt_x: f64, a: f64, exponential: f64) -> f64
     ensures { λ r. ⌜ r ≡ pdfByExponential x «sqrt_x» a exponential ⌝ }
 {
     norm_pdf_of_square(a, exponential) / (x * sqrt_x)

@@ -3,7 +3,7 @@ use crate::counted::Quantile;
 use crate::curves::Allowance;
 use crate::curves::Evaluation;
 use crate::curves::inverse_gaussian_cdf;
-use crate::curves::inverse_gaussian_pdf_by_exponential;
+use crate::curves::pdf_by_exponential;
 use crate::initial_guess::inverse_gaussian_quantile_initial_guess;
 use crate::initial_guess::is_finite_positive;
 use arithmetic::basic::abs;
@@ -162,12 +162,7 @@ fn steps(
                     } => {
                         left = rest;
                         let error = numerator(cdf, probability, log_probability);
-                        let pdf = inverse_gaussian_pdf_by_exponential(
-                            x * mu,
-                            sqrt_x,
-                            a,
-                            exponential,
-                        );
+                        let pdf = pdf_by_exponential(x * mu, sqrt_x, a, exponential);
                         next = nrstep(mu * pdf, error).later(x, direction, mu);
                     }
                 }
@@ -192,7 +187,7 @@ pub fn inverse_gaussian_quantile_actuar(probability: f64, mu: f64, allowed: Allo
             rest,
         } => {
             let error = numerator(cdf, probability, log_probability);
-            let pdf = inverse_gaussian_pdf_by_exponential(x * mu, sqrt_x, a, exponential);
+            let pdf = pdf_by_exponential(x * mu, sqrt_x, a, exponential);
             let begin = nrstep(mu * pdf, error).first(x, mu);
             steps(begin, probability, log_probability, mu, rest)
         }

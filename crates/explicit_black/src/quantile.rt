@@ -10,7 +10,7 @@ use crate::counted::Reach;
 use crate::curves::Allowance;
 use crate::curves::Evaluation;
 use crate::curves::inverse_gaussian_cdf;
-use crate::curves::inverse_gaussian_pdf_by_exponential;
+use crate::curves::pdf_by_exponential;
 use crate::initial_guess::inverse_gaussian_quantile_initial_guess;
 use crate::initial_guess::is_finite_positive;
 use crate::initial_guess::starting_point;
@@ -184,7 +184,7 @@ fn iterations(start: Bracket, guess: f64, mu: f64, probability: f64, allowed: Al
                 rest,
             } => {
                 left = rest;
-                let pdf = inverse_gaussian_pdf_by_exponential(x, sqrt_x, a, exponential);
+                let pdf = pdf_by_exponential(x, sqrt_x, a, exponential);
                 match bracket.iteration(x, cdf, pdf, probability) {
                     Iteration::Root(root) => return Quantile::Root(root, left),
                     Iteration::Again(b, next) => {

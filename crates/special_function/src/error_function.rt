@@ -105,8 +105,8 @@ const SIXTEENTHS: f64 = 422212465065984.0;
 // Up to here the table has the first exponential.
 const TABLE_END: f64 = 2.75;
 
-// y_tilde is y cut to a multiple of 1/16. By the sum it is the multiple nearest to y - 1/32, which for a y near a multiple can be the one beside it:
-// the second test tells.
+// y_tilde is y cut to a multiple of 1/16. By the sum it is the multiple nearest to y - 1/32; at an odd multiple of 1/16 that
+// is a tie, which gives the one below y. There the second test fails.
 fn smoothened_exponential_of_negative_square(y: f64) -> f64
     ensures { λ r. ⌜ r ≡ smoothenedExponentialOfNegativeSquare y ⌝ }
 {

@@ -124,7 +124,8 @@ most-units : (q k : ℕ) → q < 2 ^ 53 → q * 2 ^ k < 2 ^ 2098 → q * 2 ^ k �
 most-units q k h g = elim (lt-or-le k 2045) [
   | inl l ↦ mul-le-mul (less q (2 ^ 53) h) (pow-mono (le-of-lt l))
   | inr l ↦
-      let e : q * 2 ^ (k - 2045) * 2 ^ 2045 ≡ q * 2 ^ k = mul-assoc q (2 ^ (k - 2045)) (2 ^ 2045) ∙ ap (λ (z : ℕ). q * z) (pow-split (k - 2045) 2045 k (omega arith)) in
+      let e : q * 2 ^ (k - 2045) * 2 ^ 2045 ≡ q * 2 ^ k =
+      mul-assoc q (2 ^ (k - 2045)) (2 ^ 2045) ∙ ap (λ (z : ℕ). q * z) (pow-split (k - 2045) 2045 k (omega arith)) in
       le-trans (le-of-eq (sym e)) (mul-le-mul-right (2 ^ 2045) (less _ (2 ^ 53) (lt-of-mul-lt-mul-right (2 ^ 2045) (lt-of-le-of-lt (le-of-eq e) g))))
 ]
   where
@@ -144,7 +145,8 @@ at-most-max x F p s =
   where
     scale : (d : ℕ) → 9007199254740991 * 2 ^ 2045 * d ≡ 9007199254740991 * 2 ^ 971 * d * 2 ^ 1074
     scale d =
-        ap (λ (z : ℕ). z * d) (ap (λ (z : ℕ). 9007199254740991 * z) (sym (pow-split 971 1074 2045 refl)) ∙ sym (mul-assoc 9007199254740991 (2 ^ 971) (2 ^ 1074)))
+        ap (λ (z : ℕ). 9007199254740991 * z * d) (sym (pow-split 971 1074 2045 refl))
+        ∙ ap (λ (z : ℕ). z * d) (sym (mul-assoc 9007199254740991 (2 ^ 971) (2 ^ 1074)))
         ∙ mul-right-comm (9007199254740991 * 2 ^ 971) (2 ^ 1074) d
 
 -- ---- what rounds to a zero, and what to an infinity

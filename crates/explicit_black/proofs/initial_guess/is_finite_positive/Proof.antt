@@ -1,6 +1,6 @@
 -- `initial_guess::is_finite_positive` meets its contract. Assumes nothing.
 use mathlib.Core.Path.{_≡_, refl}
-use mathlib.Core.Bool.{true, false, _&&_, and-false, false≢true}
+use mathlib.Core.Bool.{true, false, and-false, false≢true}
 use lib.Dec.{T}
 use denote.Floats.{passes}
 use lib.Ieee.{Float, nan, inf, fin, binary64, lt, le, fits, ofBits}

@@ -22,7 +22,8 @@ returns-2 c =
     let at-start = at-cdf .before in
     from-step _ _ (at-start .before .ln .ensures) (at-start .initial-x .ensures)
     (told (seen (viewEvaluation _) (at-cdf .inverse-gaussian-cdf .ensures) (at-value .cdf .given .1)))
-    (at-numerator .numerator .ensures) (rw (at-pdf .inverse-gaussian-pdf-by-exponential .ensures) at (at-nrstep .nrstep .ensures)) (at-first .first .ensures) (c .steps .ensures)
+    (at-numerator .numerator .ensures) (rw (at-pdf .pdf-by-exponential .ensures) at (at-nrstep .nrstep .ensures))
+    (at-first .first .ensures) (c .steps .ensures)
 
 pub inverse-gaussian-quantile-actuar-spec : {M : Type 1} → statement M
 inverse-gaussian-quantile-actuar-spec =

@@ -64,7 +64,7 @@ loop-again c =
     let at-cdf = at-value .before .before in (
       stepped _ _ _ (open-step (at-cdf .before .before)) (omega arith)
           (told (seen (viewEvaluation _) (at-cdf .inverse-gaussian-cdf .ensures) (at-value .cdf .given .1)))
-          (at-numerator .numerator .ensures) (rw (at-pdf .inverse-gaussian-pdf-by-exponential .ensures) at (at-nrstep .nrstep .ensures))
+          (at-numerator .numerator .ensures) (rw (at-pdf .pdf-by-exponential .ensures) at (at-nrstep .nrstep .ensures))
           (c .later .ensures),
       omega arith,
     )

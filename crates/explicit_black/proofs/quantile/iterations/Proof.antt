@@ -48,7 +48,7 @@ turn c =
     let at-cdf = at-value .before .before in
     iterated inverseGaussianCdf iteration (at-cdf .before .before .loop .inv .0) (omega arith)
     (told (seen (viewEvaluation _) (at-cdf .inverse-gaussian-cdf .ensures) (at-value .cdf .given .1)))
-    (at-pdf .inverse-gaussian-pdf-by-exponential .ensures) (c .iteration .ensures)
+    (at-pdf .pdf-by-exponential .ensures) (c .iteration .ensures)
 
 returns : tie.Need-returns Inv-loop μ-loop
 returns c =

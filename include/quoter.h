@@ -10,8 +10,8 @@
      - keep subnormal numbers: no flush to zero, no denormals-are-zero;
      - mask every floating-point exception
    (x86-64: MXCSR 0x1F80, its status bits aside, as a C program starts). In any other mode nothing is promised, and bits do differ. A call may
-   set status bits. A test at power-on: side 0, price 0x4p-1074, forward 0x5p-1074, strike 0x2p-1074, time 1, factor 1 has the total
-   0x40000BF0F86ED205 and 6 evaluations; another rounding, or subnormals lost, shows there.
+   set status bits. A test at power-on: side 0, price 0x1p-1074, forward 0x6p-1074, strike 0x8p-1074, time 1, factor 1 has the total
+   0x3FE55B9D616C1408 and 9 evaluations; another rounding, or subnormals lost, shows there.
    Where a result is NaN, only that is promised. On x86-64 it is 0x7FF8000000000000, 0xFFF8000000000000, or an argument's pattern, whose sign
    may be turned and whose quiet bit may be set: it may be signalling. No total, no volatility and no price is NaN.
 

@@ -461,8 +461,8 @@ static int in_mode(void)
 {
     double total = UNTOUCHED, volatility = UNTOUCHED;
     uint64_t count = 7;
-    uint32_t found = quoter_quote(0, 0x4p-1074, 0x5p-1074, 0x2p-1074, 1.0, 1.0, &total, &volatility, &count);
-    return found == 0 && bits(total) == 0x40000BF0F86ED205 && bits(volatility) == bits(total) && count == 6;
+    uint32_t found = quoter_quote(0, 0x1p-1074, 0x6p-1074, 0x8p-1074, 1.0, 1.0, &total, &volatility, &count);
+    return found == 0 && bits(total) == 0x3FE55B9D616C1408 && bits(volatility) == bits(total) && count == 9;
 }
 
 /* Other roundings (down, up, toward zero), flush to zero and denormals-are-zero show there. */

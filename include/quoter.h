@@ -86,7 +86,7 @@ uint32_t quoter_normalised(double log_moneyness, double price, double *total, do
 
 /* The price of a volatility (section 14.1).
    Returns 0 for a price: it is written. Where volatility times the root of time is 0, it is the intrinsic value, or 0 where that is below 0.
-   It is never NaN. Rounding may take it past its bound, the forward of a call or the strike of a put, so that quoter_quote refuses it with 6 (984 units
+   It is never NaN. Rounding may take it past its bound, the forward of a call or the strike of a put, so that quoter_quote refuses it with 6 (1,004 units
    in the last place are the most that was met), and past the largest number, so that it is infinite.
    Otherwise returns the number of a refusal: nothing is written. Of the refusals above 1 to 4 come first, 2 for the volatility too, and then 11:
    minus zero is not below 0. */

@@ -157,14 +157,43 @@ cut-shift K E F x P Q k =
     (div-same x F (x * E) K Q (subst (λ (y : ℕ). 0 < y) k (mul-pos P Q)) (ap (λ (y : ℕ). x * y) (sym k) ∙ sym (mul-assoc x E F)))
     ∙ div-add-mod' (x * E) K
 
+by-halves : (W u1 u0 v1 v0 : ℕ) → u1 * v1 * (W * W) + (u1 * v0 + u0 * v1) * W + u0 * v0 ≡ (u1 * W + u0) * (v1 * W + v0)
+by-halves W u1 u0 v1 v0 = simp (add-mul, mul-add, mul-assoc, mul-comm, mul-left-comm) (omega arith)
+
 product-halves : (W u1 u0 v1 v0 : ℕ) → 0 < W →
     (u1 * v1 + (u1 * v0 + u0 * v1) / W) * (W * W) + (u1 * v0 + u0 * v1) * W % (W * W) + (0 * (W * W) + u0 * v0) ≡ (u1 * W + u0) * (v1 * W + v0)
 product-halves W u1 u0 v1 v0 p =
     let m = u1 * v0 + u0 * v1 in
     let a = add-mul (u1 * v1) (m / W) (W * W) in
     let b = cut-shift (W * W) W W m p p refl in
-    let c : u1 * v1 * (W * W) + m * W + u0 * v0 ≡ (u1 * W + u0) * (v1 * W + v0) = simp (add-mul, mul-add, mul-assoc, mul-comm, mul-left-comm) (omega arith) in
+    let c = by-halves W u1 u0 v1 v0 in
     omega arith
+
+-- the parts of x at W, times W
+parts-scaled : (W x : ℕ) → x / W * (W * W) + x % W * W ≡ x * W
+parts-scaled W x =
+    let a = add-mul (x / W * W) (x % W) W in
+    let b = mul-assoc (x / W) W W in
+    let c = ap (λ (y : ℕ). y * W) (div-add-mod' x W) in
+    omega arith
+
+upper-halves : (u1 u0 v1 v0 W : ℕ) → 0 < W →
+    let m = u1 * v0 + u0 * v0 / W in
+    u1 * v1 + m / W + (m % W + u0 * v1) / W ≡ (u1 * W + u0) * (v1 * W + v0) / (W * W)
+upper-halves u1 u0 v1 v0 W p =
+    let m = u1 * v0 + u0 * v0 / W in
+    let n = m % W + u0 * v1 in
+    let a = add-mul (u1 * v1 + m / W) (n / W) (W * W) in
+    let b = add-mul (u1 * v1) (m / W) (W * W) in
+    let c = parts-scaled W m in
+    let d = parts-scaled W n in
+    let e = add-mul (u1 * v0) (u0 * v0 / W) W in
+    let f = add-mul (m % W) (u0 * v1) W in
+    let g = add-mul (u1 * v0) (u0 * v1) W in
+    let h = div-add-mod' (u0 * v0) W in
+    let i = by-halves W u1 u0 v1 v0 in
+    let whole : (u1 * v1 + m / W + n / W) * (W * W) + (n % W * W + u0 * v0 % W) ≡ (u1 * W + u0) * (v1 * W + v0) = omega arith in
+    sym (digits-div (u1 * v1 + m / W + n / W) (digits-lt (mod-lt n p) (mod-lt (u0 * v0) p))) ∙ ap (λ (x : ℕ). x / (W * W)) whole
 
 -- ---- shifts: by E with E * F = K
 module _ (K E F ah al : ℕ) (P : 0 < E) (Q : 0 < F) (k : E * F ≡ K) (A : al < K) where
@@ -366,7 +395,7 @@ digits-high h l n H L =
     (lt-of-lt-of-le (digits-lt hi L) (le-of-eq (pow-split (suc j) 64 (j + 64 + 1) (omega arith)))))
 
 -- ---- the product of two numbers of 53 bits, by their halves of 32
-abbrev low : ℕ → ℕ
+abbrev pub low : ℕ → ℕ
 low n = bitAnd n 0xffff_ffff
 
 abbrev high : ℕ → ℕ
@@ -396,3 +425,36 @@ module _ (u v : ℕ) (U : u < 2 ^ 53) (Q : v < 2 ^ 53) where
 
   pub product-fits : upper-and-lower u v < 2 ^ 128
   product-fits = subst (λ (x : ℕ). x < 2 ^ 128) (sym product-is) (lt-of-lt-of-le (mul-lt-pow 53 53 U Q) (lit≤ tt))
+
+-- ---- the upper word of a product, by halves of 32
+-- the largest product of two numbers of 32 bits
+half-words : {a b : ℕ} → a < 2 ^ 32 → b < 2 ^ 32 → a * b ≤ 18446744065119617025
+half-words {a} {b} A B =
+    let x : a ≤ 4294967295 = omega arith in
+    let y : b ≤ 4294967295 = omega arith in
+    le-trans (mul-le-mul-right b x) (mul-le-mul-left 4294967295 y)
+
+abbrev pub HalvesSmall : ℕ → ℕ → Type 0
+HalvesSmall u v =
+    (high u * high v ≤ 18446744065119617025) × (high u * low v ≤ 18446744065119617025)
+    × (low u * high v ≤ 18446744065119617025) × (low u * low v ≤ 18446744065119617025)
+
+-- `middle` of the code
+abbrev pub word-middle : ℕ → ℕ → ℕ
+word-middle u v = high u * low v + low u * low v / 2 ^ 32
+
+module _ (u v : ℕ) (U : u < 2 ^ 64) (Q : v < 2 ^ 64) where
+  pub halves-small : HalvesSmall u v
+  halves-small = (
+    half-words (shr-lt 32 32 U) (shr-lt 32 32 Q),
+    half-words (shr-lt 32 32 U) (mask-lt v 32),
+    half-words (mask-lt u 32) (shr-lt 32 32 Q),
+    half-words (mask-lt u 32) (mask-lt v 32),
+  )
+
+pub upper-word : (u v : ℕ) →
+    high u * high v + word-middle u v / 2 ^ 32 + (low (word-middle u v) + low u * high v) / 2 ^ 32 ≡ u * v / 2 ^ 64
+upper-word u v =
+    ap (λ (x : ℕ). high u * high v + word-middle u v / 2 ^ 32 + (x + low u * high v) / 2 ^ 32) (and-mask (word-middle u v) 32)
+    ∙ upper-halves (high u) (low u) (high v) (low v) (2 ^ 32) (pow-pos 32)
+    ∙ rw (and-mask u 32, and-mask v 32, split u 32, split v 32)

@@ -14,7 +14,7 @@ pub(crate) const WORD: u64 = 64;
 const BOTH_WORDS: u64 = 128;
 
 // Binary digits of half a word, and a word with only those of its lower half set.
-const HALF_WORD: u64 = 32;
+pub(crate) const HALF_WORD: u64 = 32;
 
 const LOWER_HALF: u64 = 0xffff_ffff;
 
@@ -87,6 +87,19 @@ pub(crate) fn product(u: u64, v: u64) -> Pair
     };
     let lower = Pair { hi: 0, lo: u0 * v0 };
     add(upper, lower)
+}
+
+// The upper word of the product of two words. The compiler knows this form, and takes the processor's own product.
+pub(crate) fn high(u: u64, v: u64) -> u64
+    ensures { λ r. ⌜ r ≡ u * v / 2 ^ 64 ⌝ }
+{
+    let u1 = u >> HALF_WORD;
+    let u0 = u & LOWER_HALF;
+    let v1 = v >> HALF_WORD;
+    let v0 = v & LOWER_HALF;
+    let middle = u1 * v0 + ((u0 * v0) >> HALF_WORD);
+    let lower = (middle & LOWER_HALF) + u0 * v1;
+    u1 * v1 + (middle >> HALF_WORD) + (lower >> HALF_WORD)
 }
 
 // a * 2^d, which fits, for d below 128.

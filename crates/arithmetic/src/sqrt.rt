@@ -1,5 +1,5 @@
-// The square root of an f64, rounded to the nearest f64: an estimate in floats, or a neighbour of it, where a test on
-// integers finds it nearest; else digit by digit.
+// The square root of an f64, rounded to the nearest f64: an estimate, or a neighbour of it, where a test finds it nearest;
+// else digit by digit. All by integers, whose sums and products a processor has sooner than those of floats.
 ghost use mathlib.Core.Path.{_≡_};
 ghost use Prim.Native.Nat.{_^_, _≤_, _<_};
 ghost use lib.Dec.{T};
@@ -10,6 +10,8 @@ use super::format::INFINITY;
 use super::format::SIGN;
 use super::format::TWO_TO_52;
 use super::format::TWO_TO_53;
+use super::pair;
+use super::pair::HALF_WORD;
 use super::root_table;
 
 // Powers of two: q is cut into its upper 27 and its lower 26 binary digits; where w - s² or v reaches the other two, q is
@@ -25,11 +27,14 @@ const INDEX_STEP: u64 = 0x4000_0000_0000;
 
 const INDICES: u64 = 128;
 
-// The pattern of 1/2.
-const HALF: u64 = 0x3fe0_0000_0000_0000;
+// A pattern's sign, exponent and the fraction's digits of the index, which stand above the others.
+const DIGITS_ABOVE_REST: u64 = 18;
 
-// (BIAS + 1) / 2: for x = z * 4^j with z from 1/2 to 2, half the field of x and this are the field of 2^j.
-const HALF_BIAS: u64 = 512;
+// Binary digits of a number of the estimate below the last of a root.
+const DIGITS_BELOW_ROOT: u64 = 11;
+
+// Half a word without the three digits that a c4 has fewer.
+const HALF_WORD_OF_C4: u64 = 29;
 
 // BIAS - 2: half the sum of this and the field of x is the root's, but for the step that its leading digit adds.
 const ROOT_BIAS: u64 = 1021;
@@ -108,24 +113,27 @@ fn closest(w: u64, q: u64) -> u64
     by_digits(w)
 }
 
-// An estimate of √x for the normal x above 0 with pattern b: the nearest f64 for all but about 1 in 720, and no proof
-// asks it to be. With x = z * 4^j for a z from 1/2 to 2, s from the table and h = (z - s²) / (4s²), √z is
-// s + 2sh * (1 - h + 2h² - 5h³ + ..); z - s² is exact, and |h| is below 2^-9.
-fn estimate(b: u64) -> f64
-    requires { ⌜ b < 0x7ff0_0000_0000_0000 ⌝ }
-{
-    let i = b / INDEX_STEP % INDICES;
-    let z = f64::from_bits(b % TWO_TO_53 + HALF);
-    let scale = f64::from_bits((b / TWO_TO_53 + HALF_BIAS) * TWO_TO_52);
-    let slope = root_table::slope(i);
-    let d = z - root_table::square(i);
-    let h = d * (slope * slope);
-    let t = d * (slope * scale);
-    let h2 = h * h;
-    let th = t * h;
-    let near = t + th * (1.9999999994180802 * h - 1.0);
-    let far = (14.000619740340511 * h - 4.999999996595962) - 42.00241688407218 * h2;
-    root_table::root(i) * scale + (near + th * h2 * far)
+// An estimate of the whole number nearest to √(w * 2^52), for the w of the normal x with pattern b: nearest for all but
+// about 1 in 1,900, and no proof asks it to be. The index tells the interval of w, and u, in units of 2^-64, where in it w
+// lies; h, h2 and h4 are u, u² and u⁴ in units of 2^-32. The table's polynomial is taken as
+// c0 + (c1 + c5 u⁴) u - (c2 + c6 u⁴) u² + (c3 - c4 u) u³, where little waits for anything else.
+fn estimate(b: u64) -> u64 {
+    let p = root_table::polynomial_at(b / INDEX_STEP % INDICES);
+    let u = b << DIGITS_ABOVE_REST;
+    let u2 = pair::high(u, u);
+    let u3 = pair::high(u2, u);
+    let h = u >> HALF_WORD;
+    let h2 = u2 >> HALF_WORD;
+    let h4 = (h2 * h2) >> HALF_WORD;
+    let t4 = ((p.c4 as u64) * h) >> HALF_WORD_OF_C4;
+    let t5 = ((p.c5 as u64) * h4) >> HALF_WORD;
+    let t6 = ((p.c6 as u64) * h4) >> HALF_WORD;
+    let b1 = std::num::wrapping_add_u64(p.c1, t5);
+    let b2 = std::num::wrapping_add_u64(p.c2, t6);
+    let b3 = std::num::wrapping_sub_u64(p.c3, t4);
+    let near = std::num::wrapping_sub_u64(pair::high(b1, u), pair::high(b2, u2));
+    let far = std::num::wrapping_add_u64(p.c0, pair::high(b3, u3));
+    std::num::wrapping_add_u64(near, far) >> DIGITS_BELOW_ROOT
 }
 
 // The root of the normal x above 0 with pattern b.
@@ -133,19 +141,15 @@ fn of_normal(b: u64) -> f64
     requires { ⌜ (2 ^ 52 ≤ b) × (b < 0x7ff0_0000_0000_0000) ⌝ }
     ensures { λ r. ⌜ r ≡ sqrt (ofBits binary64 b) ⌝ }
 {
-    let r = estimate(b);
+    let q = estimate(b);
     let k = (ROOT_BIAS + b / TWO_TO_52) / 2;
     let digits = b % TWO_TO_53;
     let mut w = digits;
     if digits < TWO_TO_52 {
         w = 2 * digits + TWO_TO_53;
     }
-    let mut q = 0;
-    if r == r {
-        q = std::num::wrapping_sub_u64(f64::to_bits(r), k * TWO_TO_52);
-        if is_closest(w, q) {
-            return r;
-        }
+    if is_closest(w, q) {
+        return f64::from_bits(k * TWO_TO_52 + q);
     }
     f64::from_bits(k * TWO_TO_52 + closest(w, q))
 }

@@ -164,9 +164,3 @@ unfolding isNan
 is-no-nan nan h = absurd (true≢false (sym nan-differs ∙ h))
 is-no-nan (inf s) h = refl
 is-no-nan (fin s m e) h = refl
-
-pub equal-no-nan : (x : Float) → eq x x ≡ true → isNan x ≡ false
-unfolding eq isNan
-equal-no-nan nan h = absurd (true≢false (sym h))
-equal-no-nan (inf s) h = refl
-equal-no-nan (fin s m e) h = refl

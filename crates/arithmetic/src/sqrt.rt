@@ -1,5 +1,5 @@
 // The square root of an f64, rounded to the nearest f64: an estimate, or a neighbour of it, where a test finds it nearest;
-// else digit by digit. All by integers, whose sums and products a processor has sooner than those of floats.
+// else digit by digit. All of that goes by integers, whose sums a processor has sooner than those of floats.
 ghost use mathlib.Core.Path.{_≡_};
 ghost use Prim.Native.Nat.{_^_, _≤_, _<_};
 ghost use lib.Dec.{T};

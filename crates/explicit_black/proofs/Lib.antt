@@ -6,5 +6,4 @@ pub mod HalvingEnds
 pub mod Turns
 pub mod Searches
 pub mod Starts
-pub mod BoundsMet
 pub mod Allowed

@@ -1,23 +1,23 @@
 -- What `max` and `min` give on each path: a NaN is dropped, and of two numbers `takes_first` chooses. Assumes nothing.
 use Rattle.std.proofs.Common.{◌≡◌, Bool, true, false, cond}
 use lib.Ieee.{Float, is_nan, ne}
-use Rattle.arithmetic.specs.Basic.{takesFirst}
+use Rattle.arithmetic.specs.Basic.{takes_first}
 use Rattle.arithmetic.specs.Laws.Compare.{is_no_nan}
-use Rattle.arithmetic.specs.Laws.Signs.{is-nan}
+use Rattle.arithmetic.specs.Laws.Signs.{is_nan_lem}
 
 module _ (x y f g : Float) where
-  -- f where `takesFirst` holds of x and y, and g where not
+  -- f where `takes_first` holds of x and y, and g where not
   abbrev chosen : Float
-  chosen = cond (is_nan x) y (cond (is_nan y) x (cond (takesFirst x y) f g))
+  chosen = cond (is_nan x) y (cond (is_nan y) x (cond (takes_first x y) f g))
 
-  pub first-nan : ne x x ≡ true → y ≡ chosen
+  pub first_nan : ne x x ≡ true → y ≡ chosen
   unfolding is_nan
-  first-nan h = rw (is-nan x h)
+  first_nan h = rw (is_nan_lem x h)
 
   module _ (X : ne x x ≡ false) where
-    pub second-nan : ne y y ≡ true → x ≡ chosen
+    pub second_nan : ne y y ≡ true → x ≡ chosen
     unfolding is_nan
-    second-nan h = rw (is_no_nan x X, is-nan y h)
+    second_nan h = rw (is_no_nan x X, is_nan_lem y h)
 
-    pub by_first : ne y y ≡ false → (t : Bool) → t ≡ takesFirst x y → cond t f g ≡ chosen
+    pub by_first : ne y y ≡ false → (t : Bool) → t ≡ takes_first x y → cond t f g ≡ chosen
     by_first Y t e = rw (is_no_nan x X, is_no_nan y Y, e)

@@ -8,8 +8,8 @@ use lib.Ieee.Scale.{finite}
 use lib.Ieee.Bits.{of_bits-to_bits}
 use Rattle.arithmetic.specs.Internal.Exponent.{above}
 use Rattle.arithmetic.specs.Internal.MulAdd.{OperandExponent, Decoded}
-use Rattle.arithmetic.specs.Laws.Patterns.{of_bits_is, read-zero, read_more, finite-field}
-use Rattle.arithmetic.proofs.Exponents.{Counted, counted-sum, counted-from, counted_is, exponent-is}
+use Rattle.arithmetic.specs.Laws.Patterns.{of_bits_is, read_zero, read_more, finite_field}
+use Rattle.arithmetic.proofs.Exponents.{Counted, counted_sum, counted_from, counted_is, exponent_is}
 
 module _ (x : Float) (F : T (fits binary64 x)) (h : T (finite x)) where
   abbrev b : ℕ
@@ -30,23 +30,23 @@ module _ (x : Float) (F : T (fits binary64 x)) (h : T (finite x)) where
   field_lt : f < 2047
   field_lt =
       let a = mask_lt (b / 2 ^ 52) 11 in
-      let n : f ≡ 2047 → ⊥ = finite-field s f t (subst (λ (v : Float). T (finite v)) (sym (read_back f refl)) h) in
+      let n : f ≡ 2047 → ⊥ = finite_field s f t (subst (λ (v : Float). T (finite v)) (sym (read_back f refl)) h) in
       omega arith
 
   -- of the field 0, which a zero has too
-  pub value-subnormal : f ≡ 0 → HasValue x s (t * 2 ^ 0) (2 ^ 1074)
-  value-subnormal e = subst (λ (v : Float). HasValue v s (t * 2 ^ 0) (2 ^ 1074)) (read_back 0 e) (read-zero s t)
+  pub value_subnormal : f ≡ 0 → HasValue x s (t * 2 ^ 0) (2 ^ 1074)
+  value_subnormal e = subst (λ (v : Float). HasValue v s (t * 2 ^ 0) (2 ^ 1074)) (read_back 0 e) (read_zero s t)
 
-  pub value-normal : (j : ℕ) → f ≡ suc j → HasValue x s ((2 ^ 52 + t) * 2 ^ j) (2 ^ 1074)
-  value-normal j e =
+  pub value_normal : (j : ℕ) → f ≡ suc j → HasValue x s ((2 ^ 52 + t) * 2 ^ j) (2 ^ 1074)
+  value_normal j e =
       subst (λ (v : Float). HasValue v s ((2 ^ 52 + t) * 2 ^ j) (2 ^ 1074)) (read_back (suc j) e)
       (read_more s j t (subst (λ (y : ℕ). y < 2047) e field_lt))
 
-  pub decoded-subnormal : f ≡ 0 → (j : ℤ) → OperandExponent j → above 1074 j ≡ 0 → Decoded x (record { negative = s; m = t; j = j })
-  decoded-subnormal e j J i =
+  pub decoded_subnormal : f ≡ 0 → (j : ℤ) → OperandExponent j → above 1074 j ≡ 0 → Decoded x (record { negative = s; m = t; j = j })
+  decoded_subnormal e j J i =
       let a = mask_lt b 52 in
       record {
-        value = subst (λ (k : ℕ). HasValue x s (t * 2 ^ k) (2 ^ 1074)) (sym i) (value-subnormal e);
+        value = subst (λ (k : ℕ). HasValue x s (t * 2 ^ k) (2 ^ 1074)) (sym i) (value_subnormal e);
         small = omega arith;
         exponent = J;
         lead = λ h. omega arith;
@@ -57,21 +57,21 @@ module _ (x : Float) (F : T (fits binary64 x)) (h : T (finite x)) where
     abbrev j : ℤ
     j = pos f +ℤ negsuc 1074
 
-    counted-field : Counted 1074 j (f - 1)
-    counted-field = counted-from 1075 (f + 0) 1074 (f - 1) j (omega arith) (counted-sum 0 1075 f 0 (pos f) (negsuc 1074) (omega arith) refl)
+    counted_field : Counted 1074 j (f - 1)
+    counted_field = counted_from 1075 (f + 0) 1074 (f - 1) j (omega arith) (counted_sum 0 1075 f 0 (pos f) (negsuc 1074) (omega arith) refl)
 
-    pub field-exponent : OperandExponent j
-    field-exponent = let l = field_lt in exponent-is 1074 971 1074 (f - 1) j (lit≤ tt) (lit≤ tt) counted-field (omega arith) (omega arith)
+    pub field_exponent : OperandExponent j
+    field_exponent = let l = field_lt in exponent_is 1074 971 1074 (f - 1) j (lit≤ tt) (lit≤ tt) counted_field (omega arith) (omega arith)
 
-    pub decoded-normal : Decoded x (record { negative = s; m = t + 2 ^ 52; j = j })
-    decoded-normal =
+    pub decoded_normal : Decoded x (record { negative = s; m = t + 2 ^ 52; j = j })
+    decoded_normal =
         let a = mask_lt b 52 in
-        let i : f - 1 ≡ above 1074 j = sym (counted_is 1074 (f - 1) j counted-field) in
+        let i : f - 1 ≡ above 1074 j = sym (counted_is 1074 (f - 1) j counted_field) in
         record {
           value =
               subst (λ (k : ℕ). HasValue x s ((t + 2 ^ 52) * 2 ^ k) (2 ^ 1074)) i
-              (subst (λ (m : ℕ). HasValue x s (m * 2 ^ (f - 1)) (2 ^ 1074)) (add_comm (2 ^ 52) t) (value-normal (f - 1) (omega arith)));
+              (subst (λ (m : ℕ). HasValue x s (m * 2 ^ (f - 1)) (2 ^ 1074)) (add_comm (2 ^ 52) t) (value_normal (f - 1) (omega arith)));
           small = omega arith;
-          exponent = field-exponent;
+          exponent = field_exponent;
           lead = λ h. omega arith;
         }

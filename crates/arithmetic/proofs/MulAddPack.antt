@@ -8,14 +8,14 @@ use lib.Ieee.Fits.{odd-fits, nearest-le}
 use lib.Ieee.Bits.{of_bits-fits}
 use lib.Ieee.Exact.{HasValue, odd_sign}
 use lib.Ieee.Nearest.{closest, nearest-ge}
-use Rattle.arithmetic.specs.Laws.Numbers.{cmp-lt, cmp-gt, lt-or-le, pow-split}
-use Rattle.arithmetic.specs.Laws.Patterns.{signed_is, read-zero, read_more, value-unique}
-use Rattle.arithmetic.specs.Laws.Representable.{value-under}
+use Rattle.arithmetic.specs.Laws.Numbers.{cmp_lt, cmp_gt, lt_or_le, pow_split}
+use Rattle.arithmetic.specs.Laws.Patterns.{signed_is, read_zero, read_more, value_unique}
+use Rattle.arithmetic.specs.Laws.Representable.{value_under}
 
-infinity-pattern : (s : Bool) → of_bits binary64 (cond s (2 ^ 63) 0 + 2047 * 2 ^ 52) ≡ inf s
+infinity_pattern : (s : Bool) → of_bits binary64 (cond s (2 ^ 63) 0 + 2047 * 2 ^ 52) ≡ inf s
 unfolding of_bits
-infinity-pattern true = refl
-infinity-pattern false = refl
+infinity_pattern true = refl
+infinity_pattern false = refl
 
 module _ (q k : ℕ) (Q : q ≤ 2 ^ 53) (lead : 0 < k → 2 ^ 52 ≤ q) where
   no_shift : q < 2 ^ 52 → k ≡ 0
@@ -25,10 +25,10 @@ module _ (q k : ℕ) (Q : q ≤ 2 ^ 53) (lead : 0 < k → 2 ^ 52 ≤ q) where
       go (inl e) = e
       go (inr p) = let b = lead p in omega arith
 
-  pattern-value : (s : Bool) → k * 2 ^ 52 + q < 2047 * 2 ^ 52 → HasValue (of_bits binary64 (cond s (2 ^ 63) 0 + (k * 2 ^ 52 + q))) s (q * 2 ^ k) (2 ^ 1074)
-  pattern-value s h =
+  pattern_value : (s : Bool) → k * 2 ^ 52 + q < 2047 * 2 ^ 52 → HasValue (of_bits binary64 (cond s (2 ^ 63) 0 + (k * 2 ^ 52 + q))) s (q * 2 ^ k) (2 ^ 1074)
+  pattern_value s h =
       subst (λ (v : Float). HasValue v s (q * 2 ^ k) (2 ^ 1074)) (sym (signed_is s (k * 4503599627370496 + q) (omega arith)))
-      (go (lt-or-le q (2 ^ 52)) (lt-or-le q (2 ^ 53)))
+      (go (lt_or_le q (2 ^ 52)) (lt_or_le q (2 ^ 53)))
     where
       r : ℕ
       r = k * 4503599627370496 + q
@@ -46,16 +46,16 @@ module _ (q k : ℕ) (Q : q ≤ 2 ^ 53) (lead : 0 < k → 2 ^ 52 ≤ q) where
           let e : k ≡ 0 = no_shift a in
           let f : r / 4503599627370496 ≡ 0 = omega arith in
           let g : r % 4503599627370496 ≡ q = omega arith in
-          rw (f, g, e) (read-zero s q)
+          rw (f, g, e) (read_zero s q)
       go (inr a) (inl b) =
           let e : 4503599627370496 + (q - 4503599627370496) ≡ q = omega arith in
           at k (q - 4503599627370496) (omega arith) (omega arith) (omega arith) (rw e)
       go (inr a) (inr b) =
           let e : q ≡ 2 ^ 53 = omega arith in
-          at (k + 1) 0 (omega arith) (omega arith) (omega arith) (pow-split 52 (k + 1) (53 + k) (omega arith) ∙ pow-add 2 53 k ∙ rw e)
+          at (k + 1) 0 (omega arith) (omega arith) (omega arith) (pow_split 52 (k + 1) (53 + k) (omega arith) ∙ pow-add 2 53 k ∙ rw e)
 
   out_of_range : 2047 * 2 ^ 52 ≤ k * 2 ^ 52 + q → 2 ^ 2098 ≤ q * 2 ^ k
-  out_of_range h = go (lt-or-le k 2046)
+  out_of_range h = go (lt_or_le k 2046)
     where
       reach : (i : ℕ) → 2098 ≤ i + k → 2 ^ i ≤ q → 2 ^ 2098 ≤ q * 2 ^ k
       reach i a b = le_trans (pow_mono a) (le_trans (le_of_eq (pow-add 2 i k)) (mul-le-mul_right (2 ^ k) b))
@@ -64,37 +64,37 @@ module _ (q k : ℕ) (Q : q ≤ 2 ^ 53) (lead : 0 < k → 2 ^ 52 ≤ q) where
       go (inl a) = reach 53 (omega arith) (omega arith)
       go (inr a) = reach 52 (omega arith) (lead (omega arith))
 
-  finite-pattern : (s : Bool) → k * 2 ^ 52 + q < 2047 * 2 ^ 52 → of_bits binary64 (cond s (2 ^ 63) 0 + (k * 2 ^ 52 + q)) ≡ units binary64 s q k
+  finite_pattern : (s : Bool) → k * 2 ^ 52 + q < 2047 * 2 ^ 52 → of_bits binary64 (cond s (2 ^ 63) 0 + (k * 2 ^ 52 + q)) ≡ units binary64 s q k
   unfolding units
-  finite-pattern s h =
+  finite_pattern s h =
       let b = of_bits binary64 (cond s (2 ^ 63) 0 + (k * 2 ^ 52 + q)) in
       let held = of_bits-fits binary64 (cond s (2 ^ 63) 0 + (k * 2 ^ 52 + q)) in
-      let v = pattern-value s h in
-      let r = value-under binary64 b s (q * 2 ^ k) held v in
-      value-unique binary64 b (odd 54 s q k 1074) s (q * 2 ^ k) (2 ^ 1074) (pow_pos 1074)
+      let v = pattern_value s h in
+      let r = value_under binary64 b s (q * 2 ^ k) held v in
+      value_unique binary64 b (odd 54 s q k 1074) s (q * 2 ^ k) (2 ^ 1074) (pow_pos 1074)
       held (odd-fits binary64 54 s q k (lt_of_le_of_lt Q (lit< tt)) Q r) v (odd_sign 54 s q k 1074)
       ∙ sym (ap (λ (b : Bool). cond b (odd 54 s q k 1074) (inf s)) (lt-ltb (q * 2 ^ k) (2 ^ 2098) r))
 
-  infinite-pattern : (s : Bool) → 2047 * 2 ^ 52 ≤ k * 2 ^ 52 + q → of_bits binary64 (cond s (2 ^ 63) 0 + 2047 * 2 ^ 52) ≡ units binary64 s q k
+  infinite_pattern : (s : Bool) → 2047 * 2 ^ 52 ≤ k * 2 ^ 52 + q → of_bits binary64 (cond s (2 ^ 63) 0 + 2047 * 2 ^ 52) ≡ units binary64 s q k
   unfolding units
-  infinite-pattern s h = infinity-pattern s ∙ sym (ap (λ (b : Bool). cond b (odd 54 s q k 1074) (inf s)) (le-ltb (q * 2 ^ k) (2 ^ 2098) (out_of_range h)))
+  infinite_pattern s h = infinity_pattern s ∙ sym (ap (λ (b : Bool). cond b (odd 54 s q k 1074) (inf s)) (le-ltb (q * 2 ^ k) (2 ^ 2098) (out_of_range h)))
 
 -- ---- m / 4, rounded, is such a q
-round-guarded-most : (m : ℕ) → m < 2 ^ 55 → closest m 4 ≤ 2 ^ 53
-round-guarded-most m h = le_trans (nearest-le (m / 4) (compare (m % 4 * 2) 4)) (omega arith)
+round_guarded_most : (m : ℕ) → m < 2 ^ 55 → closest m 4 ≤ 2 ^ 53
+round_guarded_most m h = le_trans (nearest-le (m / 4) (compare (m % 4 * 2) 4)) (omega arith)
 
-round-guarded-least : (m : ℕ) → 2 ^ 54 ≤ m → 2 ^ 52 ≤ closest m 4
-round-guarded-least m h = let a : 4503599627370496 ≤ m / 4 = omega arith in le_trans a (nearest-ge (m / 4) (compare (m % 4 * 2) 4))
+round_guarded_least : (m : ℕ) → 2 ^ 54 ≤ m → 2 ^ 52 ≤ closest m 4
+round_guarded_least m h = let a : 4503599627370496 ≤ m / 4 = omega arith in le_trans a (nearest-ge (m / 4) (compare (m % 4 * 2) 4))
 
 -- by its last two bits
-pub round-guarded-under : (m : ℕ) → bit_and m 3 < 2 → m / 4 ≡ closest m 4
-round-guarded-under m h = let e = and_mask m 2 in rw (cmp-lt (m % 4 * 2) 4 (omega arith))
+pub round_guarded_under : (m : ℕ) → bit_and m 3 < 2 → m / 4 ≡ closest m 4
+round_guarded_under m h = let e = and_mask m 2 in rw (cmp_lt (m % 4 * 2) 4 (omega arith))
 
-pub round-guarded-tie : (m : ℕ) → bit_and m 3 ≡ 2 → m / 4 + bit_and (m / 4) 1 ≡ closest m 4
-round-guarded-tie m h = let e : m % 4 ≡ 2 = sym (and_mask m 2) ∙ h in rw (e, and_mask (m / 4) 1)
+pub round_guarded_tie : (m : ℕ) → bit_and m 3 ≡ 2 → m / 4 + bit_and (m / 4) 1 ≡ closest m 4
+round_guarded_tie m h = let e : m % 4 ≡ 2 = sym (and_mask m 2) ∙ h in rw (e, and_mask (m / 4) 1)
 
-pub round-guarded-over : (m : ℕ) → (bit_and m 3 ≡ 2 → ⊥) → 2 ≤ bit_and m 3 → m / 4 + 1 ≡ closest m 4
-round-guarded-over m n h = let e = and_mask m 2 in rw (cmp-gt (m % 4 * 2) 4 (omega arith)) (add-one (m / 4))
+pub round_guarded_over : (m : ℕ) → (bit_and m 3 ≡ 2 → ⊥) → 2 ≤ bit_and m 3 → m / 4 + 1 ≡ closest m 4
+round_guarded_over m n h = let e = and_mask m 2 in rw (cmp_gt (m % 4 * 2) 4 (omega arith)) (add-one (m / 4))
 
 -- ---- the bits under the sign, as `pack` adds them up from k and q, for a q that is m / 4 rounded
 abbrev magnitude : ℕ → ℕ → ℕ
@@ -109,14 +109,14 @@ pub packed : (m k q : ℕ) → m < 2 ^ 55 → k ≤ 3091 → (0 < k → 2 ^ 54 �
 packed m k q M K lead e =
     let n = closest m 4 in
     let is : magnitude k q ≡ k * 2 ^ 52 + n = ap (λ (x : ℕ). x + q) (mod-eq_of_lt (shifted k K)) ∙ ap (λ (x : ℕ). k * 2 ^ 52 + x) e in
-    let most = round-guarded-most m M in
-    let least : 0 < k → 2 ^ 52 ≤ n = λ p. round-guarded-least m (lead p) in
+    let most = round_guarded_most m M in
+    let least : 0 < k → 2 ^ 52 ≤ n = λ p. round_guarded_least m (lead p) in
     record {
       fits = room k n (magnitude k q) K most is;
       finite = λ s h.
           ap (λ (x : ℕ). of_bits binary64 (cond s (2 ^ 63) 0 + x)) is
-          ∙ finite-pattern n k most least s (subst (λ (x : ℕ). x < 2047 * 2 ^ 52) is h);
-      infinite = λ s h. infinite-pattern n k most least s (subst (λ (x : ℕ). 2047 * 2 ^ 52 ≤ x) is h);
+          ∙ finite_pattern n k most least s (subst (λ (x : ℕ). x < 2047 * 2 ^ 52) is h);
+      infinite = λ s h. infinite_pattern n k most least s (subst (λ (x : ℕ). 2047 * 2 ^ 52 ≤ x) is h);
     }
   where
     shifted : (k : ℕ) → k ≤ 3091 → k * 4503599627370496 < 18446744073709551616

@@ -9,7 +9,7 @@ use lib.Ieee.{binary64, size, nearest, units, round}
 use lib.Ieee.Digits.{size-lt, size-le, size_reaches}
 use lib.Ieee.Fits.{round_is}
 use lib.Ieee.Nearest.{closest, closest_same, div_same}
-use Rattle.arithmetic.specs.Laws.Numbers.{cmp-lt, cmp-gt, lt-or-le, pow-split, size_is}
+use Rattle.arithmetic.specs.Laws.Numbers.{cmp_lt, cmp_gt, lt_or_le, pow_split, size_is}
 
 -- ---- the multiple of 2 * H nearest to a number depends on its multiples of H and on whether anything is left
 between : (H q r : ℕ) → r < H → 0 < r → closest (q * H + r) (2 * H) ≡ closest (q * 2 + 1) 4
@@ -24,14 +24,14 @@ between H q r R P =
     go : (q % 2 ≡ 0) ⊎ (0 < q % 2) → nearest (q / 2) (compare ((q % 2 * H + r) * 2) (2 * H)) ≡ nearest (q / 2) (compare ((q * 2 + 1) % 4 * 2) 4)
     go (inl e) =
         let z : q % 2 * H ≡ 0 = ap (λ (x : ℕ). x * H) e ∙ zero-mul H in
-        ap (nearest (q / 2)) (cmp-lt ((q % 2 * H + r) * 2) (2 * H) (omega arith) ∙ sym (cmp-lt ((q * 2 + 1) % 4 * 2) 4 (omega arith)))
+        ap (nearest (q / 2)) (cmp_lt ((q % 2 * H + r) * 2) (2 * H) (omega arith) ∙ sym (cmp_lt ((q * 2 + 1) % 4 * 2) 4 (omega arith)))
     go (inr e) =
         let o : q % 2 ≡ 1 = omega arith in
         let z : q % 2 * H ≡ H = ap (λ (x : ℕ). x * H) o ∙ one-mul H in
-        ap (nearest (q / 2)) (cmp-gt ((q % 2 * H + r) * 2) (2 * H) (omega arith) ∙ sym (cmp-gt ((q * 2 + 1) % 4 * 2) 4 (omega arith)))
+        ap (nearest (q / 2)) (cmp_gt ((q % 2 * H + r) * 2) (2 * H) (omega arith) ∙ sym (cmp_gt ((q * 2 + 1) % 4 * 2) 4 (omega arith)))
 
-pub closest-jam : (H q r : ℕ) → r < H → closest (q * H + r) (2 * H) ≡ closest (q * 2 + min 1 r) 4
-closest-jam H q r R = go (eq-zero-or-pos r)
+pub closest_jam : (H q r : ℕ) → r < H → closest (q * H + r) (2 * H) ≡ closest (q * 2 + min 1 r) 4
+closest_jam H q r R = go (eq-zero-or-pos r)
   where
     go : (r ≡ 0) ⊎ (0 < r) → closest (q * H + r) (2 * H) ≡ closest (q * 2 + min 1 r) 4
     go (inl e) =
@@ -42,8 +42,8 @@ closest-jam H q r R = go (eq-zero-or-pos r)
     go (inr p) = let b : q * 2 + 1 ≡ q * 2 + min 1 r = omega arith in between H q r R p ∙ ap (λ (x : ℕ). closest x 4) b
 
 -- ---- at a coarser place too: 2 ^ j multiples of G at once
-pub closest-coarse : (G q r r' j : ℕ) → r < G → r' < G → min 1 r ≡ min 1 r' → closest (q * G + r) (2 * (2 ^ j * G)) ≡ closest (q * G + r') (2 * (2 ^ j * G))
-closest-coarse G q r r' j R R' e = at r R ∙ ap (λ (x : ℕ). closest (q / 2 ^ j * 2 + x) 4) (same (q % 2 ^ j * G)) ∙ sym (at r' R')
+pub closest_coarse : (G q r r' j : ℕ) → r < G → r' < G → min 1 r ≡ min 1 r' → closest (q * G + r) (2 * (2 ^ j * G)) ≡ closest (q * G + r') (2 * (2 ^ j * G))
+closest_coarse G q r r' j R R' e = at r R ∙ ap (λ (x : ℕ). closest (q / 2 ^ j * 2 + x) 4) (same (q % 2 ^ j * G)) ∙ sym (at r' R')
   where
     same : (x : ℕ) → min 1 (x + r) ≡ min 1 (x + r')
     same x = omega arith
@@ -54,11 +54,11 @@ closest-coarse G q r r' j R R' e = at r R ∙ ap (λ (x : ℕ). closest (q / 2 ^
         let b = mul_assoc (q / 2 ^ j) (2 ^ j) G in
         let c : q * G + t ≡ q / 2 ^ j * (2 ^ j * G) + (q % 2 ^ j * G + t) = omega arith in
         ap (λ (x : ℕ). closest x (2 * (2 ^ j * G))) c
-        ∙ closest-jam (2 ^ j * G) (q / 2 ^ j) (q % 2 ^ j * G + t) (digits_lt (mod-lt q (pow_pos j)) T)
+        ∙ closest_jam (2 ^ j * G) (q / 2 ^ j) (q % 2 ^ j * G + t) (digits_lt (mod-lt q (pow_pos j)) T)
 
 -- ---- a number with its last j digits dropped
-pub size-div : (n j : ℕ) → size (n / 2 ^ j) ≡ size n - j
-size-div n j = go (lt-or-le j (size n))
+pub size_div : (n j : ℕ) → size (n / 2 ^ j) ≡ size n - j
+size_div n j = go (lt_or_le j (size n))
   where
     go : (j < size n) ⊎ (size n ≤ j) → size (n / 2 ^ j) ≡ size n - j
     go (inl l) =
@@ -66,7 +66,7 @@ size-div n j = go (lt-or-le j (size n))
         let e : i + 1 ≡ size n - j = omega arith in
         size_is (n / 2 ^ j) i
         ((le-div_iff_mul-le (pow_pos j)).1 (le_trans (le_of_eq (sym (pow-add 2 i j))) (size_reaches n (i + j) (omega arith))))
-        ((div-lt_iff_lt-mul (pow_pos j)).1 (lt_of_lt_of_le (size-lt n) (le_of_eq (sym (pow-split (i + 1) j (size n) (omega arith))))))
+        ((div-lt_iff_lt-mul (pow_pos j)).1 (lt_of_lt_of_le (size-lt n) (le_of_eq (sym (pow_split (i + 1) j (size n) (omega arith))))))
         ∙ e
     go (inr l) =
         let e : 0 ≡ size n - j = omega arith in
@@ -77,8 +77,8 @@ size-div n j = go (lt-or-le j (size n))
 abbrev pub dropped : ℕ → ℕ
 dropped n = size (n / 2 ^ 1074) - 53
 
-pub round-at : (s : Bool) (n : ℕ) → round binary64 s n (2 ^ 2148) ≡ units binary64 s (closest n (2 ^ (1074 + dropped n))) (dropped n)
-round-at s n =
+pub round_at : (s : Bool) (n : ℕ) → round binary64 s n (2 ^ 2148) ≡ units binary64 s (closest n (2 ^ (1074 + dropped n))) (dropped n)
+round_at s n =
     round_is binary64 s n (2 ^ 2148)
     ∙ ap (λ (k : ℕ). units binary64 s (closest (n * 2 ^ 1074) (2 ^ 2148 * 2 ^ k)) k)
     (ap (λ (x : ℕ). size x - 53) (div_same (n * 2 ^ 1074) (2 ^ 2148) n (2 ^ 1074) (pow_pos 2148) (pow_pos 1074) (mul_assoc n (2 ^ 1074) (2 ^ 1074))))
@@ -89,4 +89,4 @@ round-at s n =
     cross : (k : ℕ) → n * 2 ^ 1074 * 2 ^ (1074 + k) ≡ n * (2 ^ 2148 * 2 ^ k)
     cross k =
         mul_assoc n (2 ^ 1074) (2 ^ (1074 + k))
-        ∙ ap (λ (x : ℕ). n * x) (pow-split 1074 (1074 + k) (2148 + k) (sym (add_assoc 1074 1074 k)) ∙ pow-add 2 2148 k)
+        ∙ ap (λ (x : ℕ). n * x) (pow_split 1074 (1074 + k) (2148 + k) (sym (add_assoc 1074 1074 k)) ∙ pow-add 2 2148 k)

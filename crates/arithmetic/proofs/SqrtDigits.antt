@@ -2,30 +2,30 @@
 -- 67108864 is 2 ^ 26, 4503599627370496 is 2 ^ 52, 18014398509481984 is 2 ^ 54. Assumes nothing.
 use Rattle.std.proofs.Common.{◌≡◌, ℕ, zero, suc, ◌+◌, ◌-◌, ◌*◌, ◌/◌, ◌%◌, ◌^◌, ◌<◌, ◌≤◌, sym, ap, ◌∙◌, subst, lt_of_lt_of_le, mul_assoc, mul-le-mul, arith, pow_mono, pow-add}
 use Rattle.arithmetic.specs.Internal.Sqrt.{Radicand, Closest}
-use Rattle.arithmetic.specs.Laws.WholeRoots.{Nearest, nearest-root}
-use Rattle.arithmetic.specs.Laws.SqrtNearest.{near-low, near-high}
+use Rattle.arithmetic.specs.Laws.WholeRoots.{Nearest, nearest_root}
+use Rattle.arithmetic.specs.Laws.SqrtNearest.{near_low, near_high}
 
 -- ---- the upper 2i of the 106 digits of w * 2 ^ 52 are r² + e, and r is their whole root; rest are the digits of w below them
 pub record Upper (w i r e rest : ℕ) : Type 0 where
   pub value : w * 4 ^ i ≡ (r * r + e) * 18014398509481984 + rest
   pub rest_lt : rest < 18014398509481984
-  pub e-le : e ≤ 2 * r
-  pub r-lt : r < 2 ^ i
+  pub e_le : e ≤ 2 * r
+  pub r_lt : r < 2 ^ i
 
 -- so no product and no sum of `by_digits` overflows
 abbrev pub Small : ℕ → ℕ → ℕ → Type 0
 Small r e rest = (r < 9007199254740992) × (e ≤ 2 * r) × (rest < 18014398509481984)
 
 pub small : (w i r e rest : ℕ) → Upper w i r e rest → i ≤ 53 → Small r e rest
-small w i r e rest u h = (lt_of_lt_of_le u.r-lt (pow_mono h), u.e-le, u.rest_lt)
+small w i r e rest u h = (lt_of_lt_of_le u.r_lt (pow_mono h), u.e_le, u.rest_lt)
 
-pub upper-none : (w : ℕ) → w < 18014398509481984 → Upper w 0 0 0 w
-upper-none w h = record { value = omega arith; rest_lt = h; e-le = omega arith; r-lt = omega arith }
+pub upper_none : (w : ℕ) → w < 18014398509481984 → Upper w 0 0 0 w
+upper_none w h = record { value = omega arith; rest_lt = h; e_le = omega arith; r_lt = omega arith }
 
 -- two digits more of w, and 0 or 1 for the root's next
 module _ (w i r e rest : ℕ) (u : Upper w i r e rest) where
   double : r * 2 + 1 < 2 ^ (i + 1)
-  double = let h = u.r-lt in rw (pow-add 2 i 1) (omega arith)
+  double = let h = u.r_lt in rw (pow-add 2 i 1) (omega arith)
 
   taken : w * 4 ^ (i + 1) ≡ (2 * r * (2 * r) + (4 * e + rest / 4503599627370496)) * 18014398509481984 + rest % 4503599627370496 * 4
   taken = rw (pow-add 4 i 1, ← mul_assoc w (4 ^ i) 4, u.value) (go (rest / 4503599627370496) (rest % 4503599627370496) (omega arith))
@@ -34,21 +34,21 @@ module _ (w i r e rest : ℕ) (u : Upper w i r e rest) where
           → ((r * r + e) * 18014398509481984 + rest) * 4 ≡ (2 * r * (2 * r) + (4 * e + h)) * 18014398509481984 + l * 4
       go h l a = omega arith
 
-  pub next-0 : 4 * e + rest / 4503599627370496 ≤ 2 * (2 * r)
+  pub next_0 : 4 * e + rest / 4503599627370496 ≤ 2 * (2 * r)
       → Upper w (i + 1) (2 * r) (4 * e + rest / 4503599627370496) (rest % 4503599627370496 * 4)
-  next-0 h = let d = double in record { value = taken; rest_lt = omega arith; e-le = h; r-lt = omega arith }
+  next_0 h = let d = double in record { value = taken; rest_lt = omega arith; e_le = h; r_lt = omega arith }
 
-  pub next-1 : 2 * (2 * r) < 4 * e + rest / 4503599627370496
+  pub next_1 : 2 * (2 * r) < 4 * e + rest / 4503599627370496
       → Upper w (i + 1) (2 * r + 1) (4 * e + rest / 4503599627370496 - 2 * (2 * r) - 1) (rest % 4503599627370496 * 4)
-  next-1 h =
+  next_1 h =
       let d = double in
-      let a = u.e-le in
+      let a = u.e_le in
       let b = u.rest_lt in
       record {
         value = taken ∙ ap (λ (x : ℕ). x * 18014398509481984 + rest % 4503599627370496 * 4) (go (4 * e + rest / 4503599627370496) h);
         rest_lt = omega arith;
-        e-le = omega arith;
-        r-lt = omega arith;
+        e_le = omega arith;
+        r_lt = omega arith;
       }
     where
       go : (f : ℕ) → 2 * (2 * r) < f → 2 * r * (2 * r) + f ≡ (2 * r + 1) * (2 * r + 1) + (f - 2 * (2 * r) - 1)
@@ -61,17 +61,17 @@ all w i r e rest u g = go (r * r) (subst (λ (j : ℕ). w * 4 ^ j ≡ (r * r + e
     go : (s : ℕ) → w * 4 ^ 53 ≡ (s + e) * 18014398509481984 + rest → rest < 18014398509481984 → w * 4503599627370496 ≡ s + e
     go s a b = omega arith
 
-pub nearest-above : (w i r e rest : ℕ) → Upper w i r e rest → i ≡ 53 → r < e → Nearest (w * 4503599627370496) (r + 1)
-nearest-above w i r e rest u g h = let a = all w i r e rest u g in let b = u.e-le in omega arith
+pub nearest_above : (w i r e rest : ℕ) → Upper w i r e rest → i ≡ 53 → r < e → Nearest (w * 4503599627370496) (r + 1)
+nearest_above w i r e rest u g h = let a = all w i r e rest u g in let b = u.e_le in omega arith
 
-pub nearest-itself : (w i r e rest : ℕ) → 0 < w → Upper w i r e rest → i ≡ 53 → e ≤ r → Nearest (w * 4503599627370496) r
-nearest-itself w i zero e rest p u g h = let a = all w i zero e rest u g in omega arith
-nearest-itself w i (suc r) e rest p u g h = let a = all w i (suc r) e rest u g in omega arith
+pub nearest_itself : (w i r e rest : ℕ) → 0 < w → Upper w i r e rest → i ≡ 53 → e ≤ r → Nearest (w * 4503599627370496) r
+nearest_itself w i zero e rest p u g h = let a = all w i zero e rest u g in omega arith
+nearest_itself w i (suc r) e rest p u g h = let a = all w i (suc r) e rest u g in omega arith
 
 -- ---- the products that `is_closest` forms, for a q below 2 ^ 53, fit in 64 bits
 module _ (q : ℕ) (h : q < 9007199254740992) where
-  pub upper-square : q / 67108864 * (q / 67108864) ≤ 18014398241046529
-  upper-square = let s : q / 67108864 ≤ 134217727 = omega arith in mul-le-mul s s
+  pub upper_square : q / 67108864 * (q / 67108864) ≤ 18014398241046529
+  upper_square = let s : q / 67108864 ≤ 134217727 = omega arith in mul-le-mul s s
 
   pub cross_product : 2 * (q / 67108864) * (q % 67108864) ≤ 18014398106828802
   cross_product =
@@ -79,8 +79,8 @@ module _ (q : ℕ) (h : q < 9007199254740992) where
       let d : q % 67108864 ≤ 67108863 = omega arith in
       mul-le-mul s d
 
-  pub lower-square : q % 67108864 * (q % 67108864) ≤ 4503599493152769
-  lower-square = let d : q % 67108864 ≤ 67108863 = omega arith in mul-le-mul d d
+  pub lower_square : q % 67108864 * (q % 67108864) ≤ 4503599493152769
+  lower_square = let d : q % 67108864 ≤ 67108863 = omega arith in mul-le-mul d d
 
 -- ---- what `is_closest` tests, with q = s * 2 ^ 26 + d: w * 2 ^ 52 + q + d² = q² + a
 pub tested : (w q : ℕ)
@@ -108,9 +108,9 @@ tested w q h k lo hi =
         subst (λ (z : ℕ). (z * z < w * 4503599627370496 + q) × (w * 4503599627370496 ≤ z * z + q)) (sym b)
         (ends ((s * 67108864 + d) * (s * 67108864 + d)) (d * d) (v * 67108864 + d) (sum s d e v a b c) l u)
 
-pub closest-of : (w r : ℕ) → Radicand w → Nearest (w * 4503599627370496) r → Closest w r
-closest-of w r (lo, hi) h = (
-  sym (nearest-root (w * 4503599627370496) r (omega arith) (omega arith) h),
-  near-low (w * 4503599627370496) r (omega arith) h.1,
-  near-high (w * 4503599627370496) r (omega arith) h.0,
+pub closest_of : (w r : ℕ) → Radicand w → Nearest (w * 4503599627370496) r → Closest w r
+closest_of w r (lo, hi) h = (
+  sym (nearest_root (w * 4503599627370496) r (omega arith) (omega arith) h),
+  near_low (w * 4503599627370496) r (omega arith) h.1,
+  near_high (w * 4503599627370496) r (omega arith) h.0,
 )

@@ -6,11 +6,11 @@ use Rattle.std.specs.Float.Ieee.{up, down, round, neg, lt}
 use Rattle.std.specs.Float.Ieee.Scale.{finite}
 use Rattle.arithmetic.specs.Operations.{◌⊕◌, ◌⊗◌, ◌⊘◌, one}
 
--- IEEE 754-2019's isSignMinus: the sign is set, as that of -0 is; a NaN has none
-abbrev pub isSignMinus : Float → Bool
-isSignMinus nan = false
-isSignMinus (inf s) = s
-isSignMinus (fin s m e) = s
+-- IEEE 754-2019's is_sign_minus: the sign is set, as that of -0 is; a NaN has none
+abbrev pub is_sign_minus : Float → Bool
+is_sign_minus nan = false
+is_sign_minus (inf s) = s
+is_sign_minus (fin s m e) = s
 
 -- the same magnitude with the sign clear
 unfoldable pub abs : Float → Float
@@ -33,18 +33,18 @@ trunc (fin s m e) = round binary64 s (m * up e / down e) 1
 
 -- whether `max` takes x rather than y, by x < y, y < x and the sign of x: the larger, and of two that are equal, which may be zeros, x where
 -- its sign is clear
-abbrev pub takesFirstBy : Bool → Bool → Bool → Bool
-takesFirstBy l g s = cond l false (cond g true (not s))
+abbrev pub takes_first_by : Bool → Bool → Bool → Bool
+takes_first_by l g s = cond l false (cond g true (not s))
 
-abbrev pub takesFirst : Float → Float → Bool
-takesFirst x y = takesFirstBy (lt x y) (lt y x) (isSignMinus x)
+abbrev pub takes_first : Float → Float → Bool
+takes_first x y = takes_first_by (lt x y) (lt y x) (is_sign_minus x)
 
 -- the larger and the smaller of two; a NaN is dropped; of two zeros `max` is +0 if either is, and `min` -0 if either is
 unfoldable pub max : Float → Float → Float
-max x y = cond (is_nan x) y (cond (is_nan y) x (cond (takesFirst x y) x y))
+max x y = cond (is_nan x) y (cond (is_nan y) x (cond (takes_first x y) x y))
 
 unfoldable pub min : Float → Float → Float
-min x y = cond (is_nan x) y (cond (is_nan y) x (cond (takesFirst x y) y x))
+min x y = cond (is_nan x) y (cond (is_nan y) x (cond (takes_first x y) y x))
 
 abbrev pub recip : Float → Float
 recip x = one ⊘ x
@@ -52,9 +52,9 @@ recip x = one ⊘ x
 abbrev pub is_finite : Float → Bool
 is_finite x = finite x
 
-abbrev pub isInfinite : Float → Bool
-isInfinite x = not (finite x || is_nan x)
+abbrev pub is_infinite : Float → Bool
+is_infinite x = not (finite x || is_nan x)
 
 -- `mul_add2_sel`, without the source's feature `fma`: the product is rounded, then the sum
-abbrev pub mulAdd2Sel : Float → Float → Float → Float
-mulAdd2Sel x a b = x ⊗ a ⊕ b
+abbrev pub mul_add2_sel : Float → Float → Float → Float
+mul_add2_sel x a b = x ⊗ a ⊕ b

@@ -2,25 +2,25 @@
 use Rattle.std.specs.Prelude.{◌*◌, Bool, cond, ℤ, Float}
 use Rattle.std.specs.Float.{nan, inf, fin, binary64}
 use Rattle.std.specs.Float.Ieee.{up, down, round, add, sub, mul, div, is_nan, lt, to_signed, of_bits}
-use Rattle.arithmetic.specs.Operations.{◌⊕◌, ◌⊖◌, ◌⊗◌, ◌⊘◌, bits, plusZero, half, one, two, infinity}
-use Rattle.arithmetic.specs.Basic.{isSignMinus, trunc}
+use Rattle.arithmetic.specs.Operations.{◌⊕◌, ◌⊖◌, ◌⊗◌, ◌⊘◌, bits, plus_zero, half, one, two, infinity}
+use Rattle.arithmetic.specs.Basic.{is_sign_minus, trunc}
 
 -- two parts of ln 2, and 1 / ln 2
-abbrev pub ln2Hi : Float
-ln2Hi = bits 0x3FE6_2E42_FEE0_0000
+abbrev pub ln2_hi : Float
+ln2_hi = bits 0x3FE6_2E42_FEE0_0000
 
-abbrev pub ln2Lo : Float
-ln2Lo = bits 0x3DEA_39EF_3579_3C76
+abbrev pub ln2_lo : Float
+ln2_lo = bits 0x3DEA_39EF_3579_3C76
 
-abbrev pub invLn2 : Float
-invLn2 = bits 0x3FF7_1547_652B_82FE
+abbrev pub inv_ln2 : Float
+inv_ln2 = bits 0x3FF7_1547_652B_82FE
 
--- above `oThreshold` the result is infinite, and below `uThreshold` it is 0
-abbrev pub oThreshold : Float
-oThreshold = bits 0x4086_2E42_FEFA_39EF
+-- above `o_threshold` the result is infinite, and below `u_threshold` it is 0
+abbrev pub o_threshold : Float
+o_threshold = bits 0x4086_2E42_FEFA_39EF
 
-abbrev pub uThreshold : Float
-uThreshold = bits 0xC087_4910_D52D_3051
+abbrev pub u_threshold : Float
+u_threshold = bits 0xC087_4910_D52D_3051
 
 -- coefficients of r (e ^ r + 1) / (e ^ r - 1) = 2 + P1 r ^ 2 + P2 r ^ 4 + ..
 abbrev pub P1 : Float
@@ -39,28 +39,28 @@ abbrev pub P5 : Float
 P5 = bits 0x3E66_3769_72BE_A4D0
 
 -- x / ln 2, and a half away from zero by the sign; k is its whole part
-unfoldable pub halfAway : Bool → Float → Float
-halfAway s x = cond s (x ⊗ invLn2 ⊖ half) (x ⊗ invLn2 ⊕ half)
+unfoldable pub half_away : Bool → Float → Float
+half_away s x = cond s (x ⊗ inv_ln2 ⊖ half) (x ⊗ inv_ln2 ⊕ half)
 
 -- y: e ^ (x - k ln 2)
 unfoldable pub reduced : Float → Float → Float
 reduced x k =
-    let h = x ⊖ k ⊗ ln2Hi in
-    let l = k ⊗ ln2Lo in
+    let h = x ⊖ k ⊗ ln2_hi in
+    let l = k ⊗ ln2_lo in
     let r = h ⊖ l in
     let q = r ⊗ r in
     let c = r ⊖ q ⊗ (P1 ⊕ q ⊗ (P2 ⊕ q ⊗ (P3 ⊕ q ⊗ (P4 ⊕ q ⊗ P5)))) in
     one ⊖ ((l ⊖ (r ⊗ c) ⊘ (two ⊖ c)) ⊖ h)
 
 -- y times 2 ^ k, rounded once
-unfoldable pub scaleB : Float → ℤ → Float
-scaleB nan k = nan
-scaleB (inf s) k = inf s
-scaleB (fin s m e) k = round binary64 s (m * up e * up k) (down e * down k)
+unfoldable pub scale_b : Float → ℤ → Float
+scale_b nan k = nan
+scale_b (inf s) k = inf s
+scale_b (fin s m e) k = round binary64 s (m * up e * up k) (down e * down k)
 
 -- e ^ x; `to_signed 63` is the whole number that k is, since k is far from the ends of the range of 63 bits
 unfoldable pub exp : Float → Float
-unfolding add sub mul div lt is_nan to_signed of_bits trunc halfAway reduced scaleB
+unfolding add sub mul div lt is_nan to_signed of_bits trunc half_away reduced scale_b
 exp x =
-    let k = trunc (halfAway (isSignMinus x) x) in
-    cond (is_nan x) nan (cond (lt oThreshold x) infinity (cond (lt x uThreshold) plusZero (scaleB (reduced x k) (to_signed 63 k))))
+    let k = trunc (half_away (is_sign_minus x) x) in
+    cond (is_nan x) nan (cond (lt o_threshold x) infinity (cond (lt x u_threshold) plus_zero (scale_b (reduced x k) (to_signed 63 k))))

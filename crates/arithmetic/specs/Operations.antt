@@ -24,8 +24,8 @@ abbrev pub ◌⊘◌ : Float → Float → Float
 abbrev pub bits : ℕ → Float
 bits b = from_bits binary64 b
 
-abbrev pub plusZero : Float
-plusZero = bits 0
+abbrev pub plus_zero : Float
+plus_zero = bits 0
 
 abbrev pub half : Float
 half = bits 0x3FE0_0000_0000_0000
@@ -37,11 +37,11 @@ abbrev pub two : Float
 two = bits 0x4000_0000_0000_0000
 
 -- `f64::MIN_POSITIVE`, the smallest normal value 2 ^ -1022; `f64::MAX`; `f64::INFINITY`; `f64::EPSILON`, 2 ^ -52
-abbrev pub minPositive : Float
-minPositive = bits 0x0010_0000_0000_0000
+abbrev pub min_positive : Float
+min_positive = bits 0x0010_0000_0000_0000
 
-abbrev pub maxFinite : Float
-maxFinite = bits 0x7FEF_FFFF_FFFF_FFFF
+abbrev pub max_finite : Float
+max_finite = bits 0x7FEF_FFFF_FFFF_FFFF
 
 abbrev pub infinity : Float
 infinity = bits 0x7FF0_0000_0000_0000
@@ -53,5 +53,5 @@ epsilon = bits 0x3CB0_0000_0000_0000
 abbrev pub sqrt2 : Float
 sqrt2 = bits 0x3FF6_A09E_667F_3BCD
 
-abbrev pub frac1Sqrt2 : Float
-frac1Sqrt2 = bits 0x3FE6_A09E_667F_3BCD
+abbrev pub frac1_sqrt2 : Float
+frac1_sqrt2 = bits 0x3FE6_A09E_667F_3BCD

@@ -2,8 +2,8 @@
 ghost use Rattle.std.specs.Prelude.{◌≡◌, ◌^◌, ◌≤◌, not, T, is_nan};
 ghost use Rattle.std.specs.Float.{binary64};
 ghost use Rattle.std.specs.Float.Ieee.{round};
-ghost use Rattle.arithmetic.specs.Basic.{abs, signum, trunc, takesFirst, max, min, recip, is_finite, isInfinite};
-ghost use Rattle.arithmetic.specs.Internal.WholePart.{wholePart};
+ghost use Rattle.arithmetic.specs.Basic.{abs, signum, trunc, takes_first, max, min, recip, is_finite, is_infinite};
+ghost use Rattle.arithmetic.specs.Internal.WholePart.{whole_part};
 
 use super::format::{
     BIAS, EXPONENT_FIELD, FRACTION_DIGITS, FRACTION_FIELD, INFINITY, NEGATIVE_INFINITY, SIGN,
@@ -36,7 +36,7 @@ pub fn signum(x: f64) -> f64
 // The whole part of |x|, and 2^52 from there on.
 pub(crate) fn whole_part(x: f64) -> u64
     requires { T (not (is_nan x)) }
-    ensures { result ≡ wholePart x }
+    ensures { result ≡ whole_part x }
 {
     let bits = f64::to_bits(x);
     let field = (bits >> FRACTION_DIGITS) & EXPONENT_FIELD;
@@ -79,7 +79,7 @@ pub fn trunc(x: f64) -> f64
 // Whether `max` takes x: the larger, and of two that are equal x where its sign is clear.
 fn takes_first(x: f64, y: f64) -> bool
     requires { T (not (is_nan x)) }
-    ensures { result ≡ takesFirst x y }
+    ensures { result ≡ takes_first x y }
 {
     if x < y {
         return false;
@@ -131,7 +131,7 @@ pub fn is_finite(x: f64) -> bool
 }
 
 pub fn is_infinite(x: f64) -> bool
-    ensures { result ≡ isInfinite x }
+    ensures { result ≡ is_infinite x }
 {
     if x == f64::from_bits(INFINITY) {
         true

@@ -3,8 +3,8 @@ ghost use Rattle.std.specs.Prelude.{◌≡◌, ◌+◌, ◌-◌, ◌^◌, ◌<�
 ghost use Rattle.std.specs.Float.{binary64};
 ghost use Rattle.std.specs.Float.Ieee.{minus, mul};
 ghost use Rattle.std.specs.Float.Ieee.Exact.{HasValue};
-ghost use Rattle.arithmetic.specs.Exp.{halfAway, reduced, scaleB, exp};
-ghost use Rattle.arithmetic.specs.Internal.Exp.{nearZero, inFastRange, clearOfTie};
+ghost use Rattle.arithmetic.specs.Exp.{half_away, reduced, scale_b, exp};
+ghost use Rattle.arithmetic.specs.Internal.Exp.{near_zero, in_fast_range, clear_of_tie};
 
 use super::basic::{signed_integer, whole_part};
 use super::format::{FRACTION_DIGITS, INFINITY, PRECISION, SIGN, TWO_TO_52};
@@ -60,7 +60,7 @@ const MAX_REST: f64 = 0.4999847412109375;
 
 // x / ln 2, and a half away from zero.
 fn half_away(negative: bool, x: f64) -> f64
-    ensures { result ≡ halfAway negative x }
+    ensures { result ≡ half_away negative x }
 {
     let w = x * INVLN2;
     if negative { w - 0.5 } else { w + 0.5 }
@@ -95,7 +95,7 @@ fn power(e: u64) -> f64
 // of two products is exact, or infinite as the result is, or too small to count.
 fn scale_b(y: f64, e: u64) -> f64
     requires { e < 2100 }
-    ensures { result ≡ scaleB y (minus e 1075) }
+    ensures { result ≡ scale_b y (minus e 1075) }
 {
     if e == 0 {
         return y * 0.5 * power(1);
@@ -142,14 +142,14 @@ fn general(x: f64) -> f64
 
 // Whether x is so near 0 that k is 0.
 fn is_near_zero(x: f64) -> bool
-    ensures { result ≡ nearZero x }
+    ensures { result ≡ near_zero x }
 {
     (x < NEAR_ZERO) & (-NEAR_ZERO < x)
 }
 
 // e^x of an x near 0: `reduced` with a k of 0, where h is x and l is 0. With d for its quotient, (l - d) - h is -(d + x).
 fn near_zero(x: f64) -> f64
-    requires { T (nearZero x) }
+    requires { T (near_zero x) }
     ensures { result ≡ exp x }
 {
     let q = x * x;
@@ -159,7 +159,7 @@ fn near_zero(x: f64) -> f64
 
 // Whether x is so far from the ends of the range that 2^k is a normal number, and no result overflows or is subnormal.
 fn is_in_fast_range(x: f64) -> bool
-    ensures { result ≡ inFastRange x }
+    ensures { result ≡ in_fast_range x }
 {
     (x < FAST_LIMIT) & (-FAST_LIMIT < x)
 }
@@ -167,7 +167,7 @@ fn is_in_fast_range(x: f64) -> bool
 // Whether x / ln 2 is clear of every tie, half way between two whole numbers: of an x in the fast range the k that SHIFT
 // gives is then the k of `general`.
 fn is_clear_of_tie(x: f64) -> bool
-    ensures { result ≡ clearOfTie x }
+    ensures { result ≡ clear_of_tie x }
 {
     let w = x * INVLN2;
     let rest = w - (w + SHIFT - SHIFT);
@@ -176,8 +176,8 @@ fn is_clear_of_tie(x: f64) -> bool
 
 // e^x of an x in the fast range and clear of a tie: k and the pattern of 2^k come from the sum with SHIFT.
 fn fast(x: f64) -> f64
-    requires fact_1 { T (inFastRange x) }
-    requires fact_2 { T (clearOfTie x) }
+    requires fact_1 { T (in_fast_range x) }
+    requires fact_2 { T (clear_of_tie x) }
     ensures { result ≡ exp x }
 {
     let t = x * INVLN2 + SHIFT;

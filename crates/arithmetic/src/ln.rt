@@ -1,9 +1,9 @@
 // The natural logarithm of x, and of 1 + u for a u near 0, with fdlibm's coefficients.
 ghost use Rattle.std.specs.Prelude.{◌≡◌, ◌^◌, ◌≤◌};
 ghost use Rattle.arithmetic.specs.Operations.{◌⊕◌, ◌⊖◌, ◌⊗◌, one};
-ghost use Rattle.arithmetic.specs.Exp.{ln2Lo};
+ghost use Rattle.arithmetic.specs.Exp.{ln2_lo};
 ghost use Rattle.arithmetic.specs.Ln.{series, ln, ln1p};
-ghost use Rattle.arithmetic.specs.Internal.Ln.{significandOfBits, exponentOfBits};
+ghost use Rattle.arithmetic.specs.Internal.Ln.{significand_of_bits, exponent_of_bits};
 
 use super::constants::MIN_POSITIVE;
 use super::exp::{LN2_HI, LN2_LO};
@@ -49,7 +49,7 @@ pub struct Decomposed {
 // each power of two on, and k from the least m times it, so b is moved down first.
 fn decompose_bits(b: u64) -> Decomposed
     requires { 2 ^ 52 ≤ b }
-    ensures { (result.m ≡ significandOfBits b) × (result.k ≡ exponentOfBits b) }
+    ensures { (result.m ≡ significand_of_bits b) × (result.k ≡ exponent_of_bits b) }
 {
     let t = b - LEAST_FRACTION;
     Decomposed {
@@ -78,7 +78,7 @@ fn series(f: f64, k: f64, kl: f64) -> f64
 // The logarithm by a pattern as `decompose_bits` takes it.
 fn of_pattern(b: u64) -> f64
     requires { 2 ^ 52 ≤ b }
-    ensures { result ≡ series (significandOfBits b ⊖ one) (exponentOfBits b) (exponentOfBits b ⊗ ln2Lo) }
+    ensures { result ≡ series (significand_of_bits b ⊖ one) (exponent_of_bits b) (exponent_of_bits b ⊗ ln2_lo) }
 {
     let p = decompose_bits(b);
     series(p.m - 1.0, p.k, p.k * LN2_LO)

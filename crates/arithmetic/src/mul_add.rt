@@ -8,7 +8,7 @@ ghost use Rattle.arithmetic.specs.Internal.Pair.{val};
 ghost use Rattle.arithmetic.specs.Internal.Exponent.{above};
 ghost use Rattle.arithmetic.specs.Internal.MulAdd.{OperandExponent, TermExponent, KeptExponent};
 ghost use Rattle.arithmetic.specs.Internal.MulAdd.{Decoded, ProductExponent, Operands, Aligned, LastDigit, IsGuarded};
-ghost use Rattle.arithmetic.specs.MulAdd.{mulAdd};
+ghost use Rattle.arithmetic.specs.MulAdd.{mul_add};
 
 use super::basic::is_finite;
 use super::format::{
@@ -255,7 +255,7 @@ fn product_exponent(u: Parts, v: Parts) -> i16
 
 // x * a + b. Of finite x and a and a b that is not finite the result is b: the product by the operator could overflow.
 pub fn mul_add(x: f64, a: f64, b: f64) -> f64
-    ensures { result ≡ mulAdd x a b }
+    ensures { result ≡ mul_add x a b }
 {
     if is_finite(x) {
         if is_finite(a) {

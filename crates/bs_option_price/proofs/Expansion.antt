@@ -3,24 +3,24 @@ use mathlib.Core.Path.{◌≡◌, sym, ap}
 use Prim.Native.Nat.{ℕ, suc, ◌-◌, ◌<◌}
 use borrow.Author.Tests.{lt-ltb}
 use lib.Ieee.{Float}
-use Rattle.arithmetic.specs.Operations.{◌⊗◌, plusZero}
+use Rattle.arithmetic.specs.Operations.{◌⊗◌, plus_zero}
 use Rattle.special_function.specs.Polynomial.{nested}
 use Rattle.bs_option_price.specs.Table.{row, a}
-use Rattle.bs_option_price.specs.BsOptionPrice.{term, omegaOverQ, tail}
+use Rattle.bs_option_price.specs.BsOptionPrice.{term, omega_over_q, tail}
 
 pub row_at : (n k : ℕ) (e : Float) → k ≡ n → nested e (row n) ≡ a k e
 unfolding a
 row_at n k e h = ap (λ (m : ℕ). nested e (row m)) (sym h)
 
 module _ (idx : ℕ) (q e : Float) where
-  pub first-term : {r : Float} → r ≡ term idx 0 plusZero q (a 16 e) → r ≡ omegaOverQ idx q e 1
-  unfolding omegaOverQ
-  first-term step = step
+  pub first_term : {r : Float} → r ≡ term idx 0 plus_zero q (a 16 e) → r ≡ omega_over_q idx q e 1
+  unfolding omega_over_q
+  first_term step = step
 
-  pub next-term : (n : ℕ) {o r : Float} → o ≡ omegaOverQ idx q e n → r ≡ term idx n o q (a (16 - n) e) → r ≡ omegaOverQ idx q e (suc n)
-  unfolding omegaOverQ
-  next-term n before step = rw (← before) step
+  pub next_term : (n : ℕ) {o r : Float} → o ≡ omega_over_q idx q e n → r ≡ term idx n o q (a (16 - n) e) → r ≡ omega_over_q idx q e (suc n)
+  unfolding omega_over_q
+  next_term n before step = rw (← before) step
 
-  pub tail-from-terms : {r : Float} → idx < 12 → r ≡ omegaOverQ idx q e 12 → q ⊗ r ≡ tail idx q e
+  pub tail_from_terms : {r : Float} → idx < 12 → r ≡ omega_over_q idx q e 12 → q ⊗ r ≡ tail idx q e
   unfolding tail
-  tail-from-terms below terms = rw (lt-ltb _ _ below, terms)
+  tail_from_terms below terms = rw (lt-ltb _ _ below, terms)

@@ -1,12 +1,12 @@
 -- The normalised Black price and its three formulas, after bs_option_price.rs. What a definition uses stands above it. Definitions only.
 use Rattle.std.specs.Prelude.{ℕ, zero, suc, ◌-◌, Bool, ◌&&◌, ◌||◌, cond, List, [], ◌∷◌, leb, ltb, Float}
 use Rattle.std.specs.Float.Ieee.{neg, lt, le, eq}
-use Rattle.arithmetic.specs.Operations.{◌⊕◌, ◌⊖◌, ◌⊗◌, ◌⊘◌, bits, plusZero, half, one, two, minPositive, frac1Sqrt2}
-use Rattle.arithmetic.specs.Basic.{max, min, recip, isInfinite, mulAdd2Sel}
+use Rattle.arithmetic.specs.Operations.{◌⊕◌, ◌⊖◌, ◌⊗◌, ◌⊘◌, bits, plus_zero, half, one, two, min_positive, frac1_sqrt2}
+use Rattle.arithmetic.specs.Basic.{max, min, recip, is_infinite, mul_add2_sel}
 use Rattle.arithmetic.specs.Exp.{exp}
 use Rattle.arithmetic.specs.Ln.{ln, ln1p}
-use Rattle.special_function.specs.Constants.{frac1Sqrt2Pi, sqrtPiOver2}
-use Rattle.special_function.specs.ErrorFunction.{erfcCody, erfcxCody}
+use Rattle.special_function.specs.Constants.{frac1_sqrt2_pi, sqrt_pi_over2}
+use Rattle.special_function.specs.ErrorFunction.{erfc_cody, erfcx_cody}
 use Rattle.special_function.specs.Polynomial.{evaluate, nested}
 use Rattle.bs_option_price.specs.Table.{a}
 
@@ -22,12 +22,12 @@ eta = bits 0xC02A_0000_0000_0000
 -- ---- regions
 
 -- where the asymptotic expansion answers
-unfoldable pub isRegion1 : Float → Float → Bool
-isRegion1 h t = lt h eta && lt (t ⊕ h) (tau ⊕ half ⊕ eta)
+unfoldable pub is_region1 : Float → Float → Bool
+is_region1 h t = lt h eta && lt (t ⊕ h) (tau ⊕ half ⊕ eta)
 
 -- where the expansion for small t answers
-unfoldable pub isRegion2 : Float → Float → Bool
-isRegion2 h t = lt (mulAdd2Sel h (neg half ⊘ eta) (neg tau ⊕ t)) plusZero
+unfoldable pub is_region2 : Float → Float → Bool
+is_region2 h t = lt (mul_add2_sel h (neg half ⊘ eta) (neg tau ⊕ t)) plus_zero
 
 -- ---- the asymptotic expansion
 
@@ -48,33 +48,33 @@ thresholds =
     ∷ []
 
 -- the index of the first entry above the value, or how many there are
-unfoldable pub firstAbove : Float → List Float → ℕ
-firstAbove value [] = 0
-firstAbove value (x ∷ xs) = cond (lt value x) 0 (suc (firstAbove value xs))
+unfoldable pub first_above : Float → List Float → ℕ
+first_above value [] = 0
+first_above value (x ∷ xs) = cond (lt value x) 0 (suc (first_above value xs))
 
 unfoldable pub position : Float → ℕ
-position value = firstAbove value thresholds
+position value = first_above value thresholds
 
 -- one coefficient more, if the position is at most `last`
 unfoldable pub term : ℕ → ℕ → Float → Float → Float → Float
-term idx last omega q coefficient = cond (leb idx last) (mulAdd2Sel omega q coefficient) omega
+term idx last omega q coefficient = cond (leb idx last) (mul_add2_sel omega q coefficient) omega
 
 -- omega / q after the first n of these steps, whose coefficients are a16, a15, and so on down
-unfoldable pub omegaOverQ : ℕ → Float → Float → ℕ → Float
-omegaOverQ idx q e zero = plusZero
-omegaOverQ idx q e (suc n) = term idx n (omegaOverQ idx q e n) q (a (16 - n) e)
+unfoldable pub omega_over_q : ℕ → Float → Float → ℕ → Float
+omega_over_q idx q e zero = plus_zero
+omega_over_q idx q e (suc n) = term idx n (omega_over_q idx q e n) q (a (16 - n) e)
 
 -- what a16 to a5 add, below the last threshold
 unfoldable pub tail : ℕ → Float → Float → Float
-tail idx q e = cond (ltb idx 12) (q ⊗ omegaOverQ idx q e 12) plusZero
+tail idx q e = cond (ltb idx 12) (q ⊗ omega_over_q idx q e 12) plus_zero
 
 unfoldable pub omega : Float → Float → Float → Float
 omega tail q e = nested q ((a 4 e ⊕ tail) ∷ a 3 e ∷ a 2 e ∷ a 1 e ∷ a 0 e ∷ [])
 
-unfoldable pub asymptoticExpansionOfScaledNormalisedBlack : Float → Float → Float
-asymptoticExpansionOfScaledNormalisedBlack h t =
+unfoldable pub asymptotic_expansion_of_scaled_normalised_black : Float → Float → Float
+asymptotic_expansion_of_scaled_normalised_black h t =
     let e = (t ⊘ h) ⊗ (t ⊘ h) in
-    let r = mulAdd2Sel t (neg t) (h ⊗ h) in
+    let r = mul_add2_sel t (neg t) (h ⊗ h) in
     let q = (h ⊘ r) ⊗ (h ⊘ r) in
     let idx = position (neg h ⊖ t ⊕ tau ⊕ half) in
     (t ⊘ r) ⊗ omega (tail idx q e) q e
@@ -82,9 +82,9 @@ asymptoticExpansionOfScaledNormalisedBlack h t =
 -- ---- the expansion for small t
 
 -- the rational function of order (5,6), times w, plus 1
-unfoldable pub yPrimeTailExpansionRationalFunctionPartPlus1 : Float → Float
-yPrimeTailExpansionRationalFunctionPartPlus1 w =
-    mulAdd2Sel
+unfoldable pub y_prime_tail_expansion_rational_function_part_plus1 : Float → Float
+y_prime_tail_expansion_rational_function_part_plus1 w =
+    mul_add2_sel
     (nested w
     (neg (bits 0x40F0_5023_FC09_A010)  -- -6.681_824_903_261_685E4
     ∷ neg (bits 0x40F4_77C0_57E7_380F)  -- -8.383_602_146_074_198E4
@@ -106,10 +106,10 @@ yPrimeTailExpansionRationalFunctionPartPlus1 w =
     one
 
 -- the quotient for h from -4 to -0.46875: the first product is by h, the others by -h
-unfoldable pub yPrimeMiddle : Float → Float
-yPrimeMiddle h =
+unfoldable pub y_prime_middle : Float → Float
+y_prime_middle h =
     evaluate
-    (mulAdd2Sel h (bits 0x3E0D_10D4_534D_1974) (bits 0x3E66_F5CB_E427_C89A))  -- 8.459_243_640_658_06E-10, 4.276_659_783_590_871_4E-8
+    (mul_add2_sel h (bits 0x3E0D_10D4_534D_1974) (bits 0x3E66_F5CB_E427_C89A))  -- 8.459_243_640_658_06E-10, 4.276_659_783_590_871_4E-8
     (bits 0x3F34_2185_F3CF_EF4C  -- 3.071_739_227_491_390_3E-4
     ∷ bits 0x3F76_B6E6_75E1_4C50  -- 5.545_521_007_735_379_5E-3
     ∷ bits 0x3FA7_5F8E_0815_831F  -- 4.565_090_035_135_299E-2
@@ -119,7 +119,7 @@ yPrimeMiddle h =
     ∷ [])
     (neg h)
     ⊘ evaluate
-    (mulAdd2Sel h (neg (bits 0x3F34_3313_B269_1D34)) (bits 0x3F76_A59F_CFD4_8FBC))  -- -3.082_202_041_792_714_7E-4, 5.529_045_357_693_659E-3
+    (mul_add2_sel h (neg (bits 0x3F34_3313_B269_1D34)) (bits 0x3F76_A59F_CFD4_8FBC))  -- -3.082_202_041_792_714_7E-4, 5.529_045_357_693_659E-3
     (bits 0x3FA7_F142_C46F_036D  -- 4.676_254_890_319_496E-2
     ∷ bits 0x3FCE_4EB5_8DDA_8DA7  -- 2.367_770_140_309_464E-1
     ∷ bits 0x3FE8_8125_635D_001B  -- 7.657_648_983_658_903E-1
@@ -130,11 +130,11 @@ yPrimeMiddle h =
     (neg h)
 
 -- by Cody's thresholds -4.0 and -0.46875
-unfoldable pub yPrime : Float → Float
-yPrime h =
+unfoldable pub y_prime : Float → Float
+y_prime h =
     cond (lt h (neg (bits 0x4010_0000_0000_0000)))
-    (let w = recip (h ⊗ h) in w ⊗ yPrimeTailExpansionRationalFunctionPartPlus1 w)
-    (cond (le h (neg (bits 0x3FDE_0000_0000_0000))) (yPrimeMiddle h) (mulAdd2Sel (erfcxCody (neg frac1Sqrt2 ⊗ h)) (h ⊗ sqrtPiOver2) one))
+    (let w = recip (h ⊗ h) in w ⊗ y_prime_tail_expansion_rational_function_part_plus1 w)
+    (cond (le h (neg (bits 0x3FDE_0000_0000_0000))) (y_prime_middle h) (mul_add2_sel (erfcx_cody (neg frac1_sqrt2 ⊗ h)) (h ⊗ sqrt_pi_over2) one))
 
 -- 2.0 · a
 abbrev pub b0 : Float → Float
@@ -142,17 +142,17 @@ b0 a = two ⊗ a
 
 -- (a · (3.0 + h2) + -1.0) / 3.0
 unfoldable pub b1 : Float → Float → Float
-b1 a h2 = mulAdd2Sel a (bits 0x4008_0000_0000_0000 ⊕ h2) (neg (bits 0x3FF0_0000_0000_0000)) ⊘ bits 0x4008_0000_0000_0000
+b1 a h2 = mul_add2_sel a (bits 0x4008_0000_0000_0000 ⊕ h2) (neg (bits 0x3FF0_0000_0000_0000)) ⊘ bits 0x4008_0000_0000_0000
 
 -- ([10.0 + h2, 15.0] · a + (-7.0 - h2)) / 60.0, a bracket being a polynomial of h2
 unfoldable pub b2 : Float → Float → Float
 b2 a h2 =
-    mulAdd2Sel (nested h2 ((bits 0x4024_0000_0000_0000 ⊕ h2) ∷ bits 0x402E_0000_0000_0000 ∷ [])) a (neg (bits 0x401C_0000_0000_0000) ⊖ h2)
+    mul_add2_sel (nested h2 ((bits 0x4024_0000_0000_0000 ⊕ h2) ∷ bits 0x402E_0000_0000_0000 ∷ [])) a (neg (bits 0x401C_0000_0000_0000) ⊖ h2)
     ⊘ bits 0x404E_0000_0000_0000
 
 -- what b3 to b6 share: a polynomial of h2 times a, plus another, over a divisor
 unfoldable pub b : Float → Float → List Float → List Float → Float → Float
-b a h2 factor rest divisor = mulAdd2Sel (nested h2 factor) a (nested h2 rest) ⊘ divisor
+b a h2 factor rest divisor = mul_add2_sel (nested h2 factor) a (nested h2 rest) ⊘ divisor
 
 -- ([21.0 + h2, 105.0, 105.0] · a + [-18.0 - h2, -57.0]) / 2520.0
 abbrev pub b3 : Float → Float → Float
@@ -189,58 +189,58 @@ b6 a h2 =
     (bits 0x41E7_328C_C000_0000)
 
 -- the polynomial of t² with coefficients b6 to b0, times t
-unfoldable pub smallTExpansionOfScaledNormalisedBlack : Float → Float → Float
-smallTExpansionOfScaledNormalisedBlack h t =
-    let a = yPrime h in
+unfoldable pub small_t_expansion_of_scaled_normalised_black : Float → Float → Float
+small_t_expansion_of_scaled_normalised_black h t =
+    let a = y_prime h in
     let h2 = h ⊗ h in
     nested (t ⊗ t) (b6 a h2 ∷ b5 a h2 ∷ b4 a h2 ∷ b3 a h2 ∷ b2 a h2 ∷ b1 a h2 ∷ b0 a ∷ []) ⊗ t
 
 -- ---- Cody's functions
 
 -- twice the price, by which of q1 and q2 is below 0.46875
-unfoldable pub twoB : Float → Float → Float → Float → Float
-twoB halfThetaX q1 q2 expNegQ =
+unfoldable pub two_b : Float → Float → Float → Float → Float
+two_b half_theta_x q1 q2 exp_neg_q =
     cond (lt q1 (bits 0x3FDE_0000_0000_0000))
     (cond (lt q2 (bits 0x3FDE_0000_0000_0000))
-    (mulAdd2Sel (exp halfThetaX) (erfcCody q1) (neg (exp (neg halfThetaX) ⊗ erfcCody q2)))
-    (mulAdd2Sel (exp halfThetaX) (erfcCody q1) (neg (expNegQ ⊗ erfcxCody q2))))
+    (mul_add2_sel (exp half_theta_x) (erfc_cody q1) (neg (exp (neg half_theta_x) ⊗ erfc_cody q2)))
+    (mul_add2_sel (exp half_theta_x) (erfc_cody q1) (neg (exp_neg_q ⊗ erfcx_cody q2))))
     (cond (lt q2 (bits 0x3FDE_0000_0000_0000))
-    (mulAdd2Sel expNegQ (erfcxCody q1) (neg (exp (neg halfThetaX) ⊗ erfcCody q2)))
-    (expNegQ ⊗ (erfcxCody q1 ⊖ erfcxCody q2)))
+    (mul_add2_sel exp_neg_q (erfcx_cody q1) (neg (exp (neg half_theta_x) ⊗ erfc_cody q2)))
+    (exp_neg_q ⊗ (erfcx_cody q1 ⊖ erfcx_cody q2)))
 
-unfoldable pub normalisedBlackWithOptimalUseOfCodysFunctionsImpl : Float → Float → Float → Float → Float
-normalisedBlackWithOptimalUseOfCodysFunctionsImpl halfThetaX h t expNegQ =
-    let q1 = neg frac1Sqrt2 ⊗ (h ⊕ t) in
-    let q2 = neg frac1Sqrt2 ⊗ (h ⊖ t) in
-    max (half ⊗ twoB halfThetaX q1 q2 expNegQ) plusZero
+unfoldable pub normalised_black_with_optimal_use_of_codys_functions_impl : Float → Float → Float → Float → Float
+normalised_black_with_optimal_use_of_codys_functions_impl half_theta_x h t exp_neg_q =
+    let q1 = neg frac1_sqrt2 ⊗ (h ⊕ t) in
+    let q2 = neg frac1_sqrt2 ⊗ (h ⊖ t) in
+    max (half ⊗ two_b half_theta_x q1 q2 exp_neg_q) plus_zero
 
-unfoldable pub normalisedBlackWithOptimalUseOfCodysFunctions : Float → Float → Float → Float
-normalisedBlackWithOptimalUseOfCodysFunctions halfThetaX h t =
-    normalisedBlackWithOptimalUseOfCodysFunctionsImpl halfThetaX h t (exp (neg half ⊗ mulAdd2Sel t t (h ⊗ h)))
+unfoldable pub normalised_black_with_optimal_use_of_codys_functions : Float → Float → Float → Float
+normalised_black_with_optimal_use_of_codys_functions half_theta_x h t =
+    normalised_black_with_optimal_use_of_codys_functions_impl half_theta_x h t (exp (neg half ⊗ mul_add2_sel t t (h ⊗ h)))
 
 -- ---- the price
 
 -- e^(-(t² + h²) / 2) / √(2π)
-unfoldable pub normalisedVega : Float → Float → Float
-normalisedVega h t = frac1Sqrt2Pi ⊗ exp (neg half ⊗ mulAdd2Sel t t (h ⊗ h))
+unfoldable pub normalised_vega : Float → Float → Float
+normalised_vega h t = frac1_sqrt2_pi ⊗ exp (neg half ⊗ mul_add2_sel t t (h ⊗ h))
 
-unfoldable pub normalisedBlack : Float → Float → Float → Float
-normalisedBlack halfThetaX h t =
-    cond (eq t plusZero || isInfinite h)
-    plusZero
-    (cond (isRegion1 h t)
-    (asymptoticExpansionOfScaledNormalisedBlack h t ⊗ normalisedVega h t)
-    (cond (isRegion2 h t)
-    (smallTExpansionOfScaledNormalisedBlack h t ⊗ normalisedVega h t)
-    (normalisedBlackWithOptimalUseOfCodysFunctions halfThetaX h t)))
+unfoldable pub normalised_black : Float → Float → Float → Float
+normalised_black half_theta_x h t =
+    cond (eq t plus_zero || is_infinite h)
+    plus_zero
+    (cond (is_region1 h t)
+    (asymptotic_expansion_of_scaled_normalised_black h t ⊗ normalised_vega h t)
+    (cond (is_region2 h t)
+    (small_t_expansion_of_scaled_normalised_black h t ⊗ normalised_vega h t)
+    (normalised_black_with_optimal_use_of_codys_functions half_theta_x h t)))
 
 -- -|ln (f / k)|: where the smaller is at least half of the larger, the difference is taken before the logarithm; where the ratio is
 -- below the normal values, the difference of two logarithms
-unfoldable pub negativeAbsLogMoneyness : Float → Float → Float
-negativeAbsLogMoneyness f k =
+unfoldable pub negative_abs_log_moneyness : Float → Float → Float
+negative_abs_log_moneyness f k =
     let smaller = min f k in
     let larger = max f k in
     let ratio = smaller ⊘ larger in
     cond (le (half ⊗ larger) smaller)
     (neg (ln1p ((larger ⊖ smaller) ⊘ smaller)))
-    (cond (le minPositive ratio) (ln ratio) (ln smaller ⊖ ln larger))
+    (cond (le min_positive ratio) (ln ratio) (ln smaller ⊖ ln larger))

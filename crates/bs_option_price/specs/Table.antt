@@ -65,7 +65,7 @@ unfoldable pub row : ℕ → List Float
 row k = take (k + 1) (drop (k * (k + 1) / 2) table)
 
 -- The polynomial ak at e. The source writes it `e.mul_add2_sel(c, d)`, then `.mul_add2_sel(e, ..)` for each coefficient that is left: by
--- `nested-chain` that is `nested`.
+-- `nested_chain` that is `nested`.
 unfoldable pub a : ℕ → Float → Float
 unfolding row
 a k e = nested e (row k)
@@ -78,9 +78,9 @@ unfolding row table of_bits
 coefficient k j = get_or (row k) (k - j) nan
 
 -- (2k - 1)!!, which is 1 at 0
-unfoldable pub doubleFactorial : ℕ → ℕ
-doubleFactorial zero = 1
-doubleFactorial (suc k) = (2 * k + 1) * doubleFactorial k
+unfoldable pub double_factorial : ℕ → ℕ
+double_factorial zero = 1
+double_factorial (suc k) = (2 * k + 1) * double_factorial k
 
 unfoldable pub factorial : ℕ → ℕ
 factorial zero = 1
@@ -91,27 +91,27 @@ unfolding factorial
 choose n k = factorial n / (factorial k * factorial (n - k))
 
 -- the size of the exact coefficient of e ^ j in ak
-unfoldable pub exactSize : ℕ → ℕ → ℕ
-unfolding doubleFactorial choose
-exactSize k j = 2 * doubleFactorial k * choose (2 * k + 1) (2 * j + 1)
+unfoldable pub exact_size : ℕ → ℕ → ℕ
+unfolding double_factorial choose
+exact_size k j = 2 * double_factorial k * choose (2 * k + 1) (2 * j + 1)
 
 -- the value is n, below 0 where the sign is true, up to n / 10 ^ 14
-unfoldable pub withinTolerance : Bool → ℕ → Float → Bool
-withinTolerance s n nan = false
-withinTolerance s n (inf t) = false
-withinTolerance s n (fin t m e) =
+unfoldable pub within_tolerance : Bool → ℕ → Float → Bool
+within_tolerance s n nan = false
+within_tolerance s n (inf t) = false
+within_tolerance s n (fin t m e) =
     beq s t && leb ((m * up e - n * down e + (n * down e - m * up e)) * 10 ^ 14) (n * down e)
 
 -- the rule at the coefficient of e ^ j in ak: 2 · (2k - 1)!! · C (2k + 1, 2j + 1), with the sign of (-1) ^ k
-unfoldable pub followsRule : ℕ → ℕ → Bool
-unfolding coefficient exactSize withinTolerance
-followsRule k j = withinTolerance (eqb (k % 2) 1) (exactSize k j) (coefficient k j)
+unfoldable pub follows_rule : ℕ → ℕ → Bool
+unfolding coefficient exact_size within_tolerance
+follows_rule k j = within_tolerance (eqb (k % 2) 1) (exact_size k j) (coefficient k j)
 
 -- the bit pattern of the coefficient of e ^ j in ak, and that of the binary64 nearest to the exact one
 unfoldable pub entry : ℕ → ℕ → ℕ
 unfolding patterns
 entry k j = get_or patterns (k * (k + 1) / 2 + (k - j)) 0
 
-unfoldable pub nearestEntry : ℕ → ℕ → ℕ
-unfolding exactSize round to_bits
-nearestEntry k j = to_bits binary64 (round binary64 (eqb (k % 2) 1) (exactSize k j) 1)
+unfoldable pub nearest_entry : ℕ → ℕ → ℕ
+unfolding exact_size round to_bits
+nearest_entry k j = to_bits binary64 (round binary64 (eqb (k % 2) 1) (exact_size k j) 1)

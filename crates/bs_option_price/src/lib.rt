@@ -3,13 +3,13 @@ mod table;
 
 ghost use Rattle.std.specs.Prelude.{◌≡◌, ◌-◌, ◌<◌};
 ghost use Rattle.bs_option_price.specs.Table.{a};
-ghost use Rattle.bs_option_price.specs.BsOptionPrice.{normalisedBlack, isRegion1, isRegion2};
-ghost use Rattle.bs_option_price.specs.BsOptionPrice.{asymptoticExpansionOfScaledNormalisedBlack, position, term, tail, omega};
-ghost use Rattle.bs_option_price.specs.BsOptionPrice.{smallTExpansionOfScaledNormalisedBlack, b0, b1, b2, b, b3, b4, b5, b6};
-ghost use Rattle.bs_option_price.specs.BsOptionPrice.{yPrime, yPrimeMiddle, yPrimeTailExpansionRationalFunctionPartPlus1};
-ghost use Rattle.bs_option_price.specs.BsOptionPrice.{normalisedBlackWithOptimalUseOfCodysFunctions};
-ghost use Rattle.bs_option_price.specs.BsOptionPrice.{normalisedBlackWithOptimalUseOfCodysFunctionsImpl, twoB};
-ghost use Rattle.bs_option_price.specs.BsOptionPrice.{normalisedVega, negativeAbsLogMoneyness};
+ghost use Rattle.bs_option_price.specs.BsOptionPrice.{normalised_black, is_region1, is_region2};
+ghost use Rattle.bs_option_price.specs.BsOptionPrice.{asymptotic_expansion_of_scaled_normalised_black, position, term, tail, omega};
+ghost use Rattle.bs_option_price.specs.BsOptionPrice.{small_t_expansion_of_scaled_normalised_black, b0, b1, b2, b, b3, b4, b5, b6};
+ghost use Rattle.bs_option_price.specs.BsOptionPrice.{y_prime, y_prime_middle, y_prime_tail_expansion_rational_function_part_plus1};
+ghost use Rattle.bs_option_price.specs.BsOptionPrice.{normalised_black_with_optimal_use_of_codys_functions};
+ghost use Rattle.bs_option_price.specs.BsOptionPrice.{normalised_black_with_optimal_use_of_codys_functions_impl, two_b};
+ghost use Rattle.bs_option_price.specs.BsOptionPrice.{normalised_vega, negative_abs_log_moneyness};
 
 use arithmetic::basic::{is_infinite, max, min, recip};
 use arithmetic::constants::{FRAC_1_SQRT_2, MIN_POSITIVE};
@@ -22,7 +22,7 @@ use special_function::polynomial::{evaluate, nested, rational};
 use table::a;
 
 pub fn normalised_black(half_theta_x: f64, h: f64, t: f64) -> f64
-    ensures { result ≡ normalisedBlack half_theta_x h t }
+    ensures { result ≡ normalised_black half_theta_x h t }
 {
     if t == 0.0 || is_infinite(h) {
         return 0.0;
@@ -39,13 +39,13 @@ pub fn normalised_black(half_theta_x: f64, h: f64, t: f64) -> f64
 const ETA: f64 = -13.0;
 
 fn is_region1(h: f64, t: f64) -> bool
-    ensures { result ≡ isRegion1 h t }
+    ensures { result ≡ is_region1 h t }
 {
     h < ETA && t + h < TAU + 0.5 + ETA
 }
 
 fn is_region2(h: f64, t: f64) -> bool
-    ensures { result ≡ isRegion2 h t }
+    ensures { result ≡ is_region2 h t }
 {
     mul_add2_sel(h, -0.5 / ETA, -TAU + t) < 0.0
 }
@@ -55,7 +55,7 @@ const THRESHOLDS: [f64; 12] = [
 ];
 
 fn asymptotic_expansion_of_scaled_normalised_black(h: f64, t: f64) -> f64
-    ensures { result ≡ asymptoticExpansionOfScaledNormalisedBlack h t }
+    ensures { result ≡ asymptotic_expansion_of_scaled_normalised_black h t }
 {
     let t_over_h = t / h;
     let e = t_over_h * t_over_h;
@@ -122,7 +122,7 @@ fn omega(tail: f64, q: f64, e: f64) -> f64
 }
 
 fn small_t_expansion_of_scaled_normalised_black(h: f64, t: f64) -> f64
-    ensures { result ≡ smallTExpansionOfScaledNormalisedBlack h t }
+    ensures { result ≡ small_t_expansion_of_scaled_normalised_black h t }
 {
     let a = y_prime(h);
     let h2 = h * h;
@@ -215,7 +215,7 @@ fn b6(a: f64, h2: f64) -> f64
 }
 
 fn y_prime(h: f64) -> f64
-    ensures { result ≡ yPrime h }
+    ensures { result ≡ y_prime h }
 {
     if h < -4.0 {
         let w = recip(h * h);
@@ -229,7 +229,7 @@ fn y_prime(h: f64) -> f64
 
 // The source's quotient for h from -4 to -0.46875. Its first products are by h, the others by -h.
 fn y_prime_middle(h: f64) -> f64
-    ensures { result ≡ yPrimeMiddle h }
+    ensures { result ≡ y_prime_middle h }
 {
     evaluate(
         mul_add2_sel(h, 8.459_243_640_658_06E-10, 4.276_659_783_590_871_4E-8),
@@ -257,7 +257,7 @@ fn y_prime_middle(h: f64) -> f64
 }
 
 fn y_prime_tail_expansion_rational_function_part_plus_1(w: f64) -> f64
-    ensures { result ≡ yPrimeTailExpansionRationalFunctionPartPlus1 w }
+    ensures { result ≡ y_prime_tail_expansion_rational_function_part_plus1 w }
 {
     let quotient = rational(
         w,
@@ -285,7 +285,7 @@ fn y_prime_tail_expansion_rational_function_part_plus_1(w: f64) -> f64
 const TAU: f64 = 2.0 * SIXTEENTH_ROOT_DBL_EPSILON;
 
 fn normalised_black_with_optimal_use_of_codys_functions(half_theta_x: f64, h: f64, t: f64) -> f64
-    ensures { result ≡ normalisedBlackWithOptimalUseOfCodysFunctions half_theta_x h t }
+    ensures { result ≡ normalised_black_with_optimal_use_of_codys_functions half_theta_x h t }
 {
     let exp_neg_q = exp(-0.5 * mul_add2_sel(t, t, h * h));
     normalised_black_with_optimal_use_of_codys_functions_impl(half_theta_x, h, t, exp_neg_q)
@@ -297,7 +297,7 @@ fn normalised_black_with_optimal_use_of_codys_functions_impl(
     t: f64,
     exp_neg_q: f64,
 ) -> f64
-    ensures { result ≡ normalisedBlackWithOptimalUseOfCodysFunctionsImpl half_theta_x h t exp_neg_q }
+    ensures { result ≡ normalised_black_with_optimal_use_of_codys_functions_impl half_theta_x h t exp_neg_q }
 {
     let q1 = -FRAC_1_SQRT_2 * (h + t);
     let q2 = -FRAC_1_SQRT_2 * (h - t);
@@ -308,7 +308,7 @@ const CODYS_THRESHOLD: f64 = 0.46875;
 
 // Twice the price: q1 and q2 choose between erfc and erfcx, each on its side of the threshold.
 fn two_b(half_theta_x: f64, q1: f64, q2: f64, exp_neg_q: f64) -> f64
-    ensures { result ≡ twoB half_theta_x q1 q2 exp_neg_q }
+    ensures { result ≡ two_b half_theta_x q1 q2 exp_neg_q }
 {
     if q1 < CODYS_THRESHOLD {
         if q2 < CODYS_THRESHOLD {
@@ -336,13 +336,13 @@ fn two_b(half_theta_x: f64, q1: f64, q2: f64, exp_neg_q: f64) -> f64
 }
 
 pub fn normalised_vega(h: f64, t: f64) -> f64
-    ensures { result ≡ normalisedVega h t }
+    ensures { result ≡ normalised_vega h t }
 {
     FRAC_1_SQRT_2_PI * exp(-0.5 * mul_add2_sel(t, t, h * h))
 }
 
 pub fn negative_abs_log_moneyness(f: f64, k: f64) -> f64
-    ensures { result ≡ negativeAbsLogMoneyness f k }
+    ensures { result ≡ negative_abs_log_moneyness f k }
 {
     let smaller = min(f, k);
     let larger = max(f, k);

@@ -1,8 +1,8 @@
 // The window: command, status, a quote, and the results of the last solve. The host writes command and quote.
 ghost use Rattle.std.specs.Prelude.{◌≡◌, ◌+◌, ◌≤◌};
-ghost use Rattle.explicit_black.specs.Replies.{viewReply};
-ghost use Rattle.cable_window.specs.Window.{windowBytes, zeros, withWord, withHyper, windowReply, withResults, cleared, solved, commanded};
-ghost use Rattle.cable_window.specs.Window.{offsetRefusal, afterWrite, afterWrites, writes};
+ghost use Rattle.explicit_black.specs.Replies.{view_reply};
+ghost use Rattle.cable_window.specs.Window.{window_bytes, zeros, with_word, with_hyper, window_reply, with_results, cleared, solved, commanded};
+ghost use Rattle.cable_window.specs.Window.{offset_refusal, after_write, after_writes, writes};
 
 use explicit_black::quote::{Reply, implied_black_volatility_input};
 use xdr_sheet::xdr::{double, pattern, unsigned};
@@ -85,8 +85,8 @@ impl Window {
 
     // The four bytes of a word, the highest first.
     fn with_word(self, at: usize, word: u32) -> Window
-        requires { at + 4 ≤ windowBytes }
-        ensures { result.bytes ≡ withWord self.bytes at word }
+        requires { at + 4 ≤ window_bytes }
+        ensures { result.bytes ≡ with_word self.bytes at word }
     {
         let mut bytes = self.bytes;
         bytes[at] = (word / 0x1000000 % 0x100) as u8;
@@ -98,8 +98,8 @@ impl Window {
 
     // The two words of a number of 64 bits, the high one first.
     fn with_hyper(self, at: usize, n: u64) -> Window
-        requires { at + 8 ≤ windowBytes }
-        ensures { result.bytes ≡ withHyper self.bytes at n }
+        requires { at + 8 ≤ window_bytes }
+        ensures { result.bytes ≡ with_hyper self.bytes at n }
     {
         self.with_word(at, (n / 0x1_0000_0000) as u32)
             .with_word(at + WORD_BYTES, (n % 0x1_0000_0000) as u32)
@@ -107,7 +107,7 @@ impl Window {
 
     // The reply to the quote whose figures stand in the window.
     fn reply(self) -> Reply
-        ensures { viewReply result ≡ windowReply self.bytes }
+        ensures { view_reply result ≡ window_reply self.bytes }
     {
         let bytes = self.bytes;
         let side = unsigned(&bytes, SIDE);
@@ -120,7 +120,7 @@ impl Window {
 
     // What a solve writes, the figures by their bits.
     fn with_results(self, status: u32, total: u64, volatility: u64, count: u32) -> Window
-        ensures { result.bytes ≡ withResults self.bytes status total volatility count }
+        ensures { result.bytes ≡ with_results self.bytes status total volatility count }
     {
         self.with_word(STATUS, status)
             .with_hyper(TOTAL, total)
@@ -175,7 +175,7 @@ impl Window {
 
 // The refusal of an offset that is no multiple of 4, or not writable, and else 0.
 fn offset_refusal(offset: u32) -> u32
-    ensures { result ≡ offsetRefusal offset }
+    ensures { result ≡ offset_refusal offset }
 {
     if offset % 4 != 0 {
         return UNWRITABLE;
@@ -195,7 +195,7 @@ fn offset_refusal(offset: u32) -> u32
 
 // The window after a write, by value.
 fn after_write(window: Window, offset: u32, word: u32) -> Window
-    ensures { result.bytes ≡ afterWrite window.bytes offset word }
+    ensures { result.bytes ≡ after_write window.bytes offset word }
 {
     if offset_refusal(offset) != 0 {
         return window;
@@ -208,7 +208,7 @@ fn after_write(window: Window, offset: u32, word: u32) -> Window
 
 // A write to a window that is lent: 0, or 14. Where it is 14 the window is not touched.
 pub fn write(window: &mut Window, offset: u32, word: u32) -> u32
-    ensures { (result ≡ offsetRefusal offset) × (window.new.bytes ≡ afterWrite window.old.bytes offset word) }
+    ensures { (result ≡ offset_refusal offset) × (window.new.bytes ≡ after_write window.old.bytes offset word) }
 {
     let number = offset_refusal(offset);
     if number == 0 {
@@ -219,7 +219,7 @@ pub fn write(window: &mut Window, offset: u32, word: u32) -> u32
 
 // A write to the caller's own copy, which is lent for it.
 pub fn written(window: Window, offset: u32, word: u32) -> WriteReply
-    ensures { (result.number ≡ offsetRefusal offset) × (result.window.bytes ≡ afterWrite window.bytes offset word) }
+    ensures { (result.number ≡ offset_refusal offset) × (result.window.bytes ≡ after_write window.bytes offset word) }
 {
     let mut own = window;
     let number = write(&mut own, offset, word);
@@ -231,7 +231,7 @@ pub fn written(window: Window, offset: u32, word: u32) -> WriteReply
 
 // The window after a list of writes from one of zeros: as many as both slices have.
 pub fn after_writes(offsets: &[u32], words: &[u32]) -> Window
-    ensures { result.bytes ≡ afterWrites zeros (writes offsets.now words.now) }
+    ensures { result.bytes ≡ after_writes zeros (writes offsets.now words.now) }
 {
     let mut window = Window::zeros();
     let mut i: usize = 0;

@@ -6,34 +6,34 @@ use lib.Ieee.{Float, of_bits}
 use Rattle.arithmetic.specs.Operations.{one}
 use Rattle.arithmetic.specs.Sqrt.{sqrt}
 use Rattle.inverse_gaussian.specs.Counted.{Option, Counted, Metered, have, mapped, limited}
-use Rattle.inverse_gaussian.specs.Laws.Counted.{limited-enough, taken-off, limited-mapped}
-use Rattle.explicit_black.specs.Quote.{Outcome, total, refused, answer, refusal, volatilityOver, replyOver, searched, totalAt}
+use Rattle.inverse_gaussian.specs.Laws.Counted.{limited_enough, taken_off, limited_mapped}
+use Rattle.explicit_black.specs.Quote.{Outcome, total, refused, answer, refusal, volatility_over, reply_over, searched, total_at}
 use Rattle.explicit_black.specs.Internal.Quote.{LeftWithin}
 
 -- the outcome of a search, from what the search itself gives where n are allowed
-pub limited-searched : (n : ℕ) (c : Counted (Option Float)) → limited n (searched c) ≡ mapped totalAt (limited n c)
-limited-searched n c = limited-mapped totalAt n c
+pub limited_searched : (n : ℕ) (c : Counted (Option Float)) → limited n (searched c) ≡ mapped total_at (limited n c)
+limited_searched n c = limited_mapped total_at n c
 
 -- where as many are allowed as are made, they are not spent, and no more are left than were allowed
-pub enough-within : (n : ℕ) (m : Metered Outcome) (c : Counted Outcome) → m ≡ limited n c → c.count ≤ n → LeftWithin n m
-enough-within n m c e h = subst (LeftWithin n) (sym (e ∙ limited-enough n c h)) (omega arith)
+pub enough_within : (n : ℕ) (m : Metered Outcome) (c : Counted Outcome) → m ≡ limited n c → c.count ≤ n → LeftWithin n m
+enough_within n m c e h = subst (LeftWithin n) (sym (e ∙ limited_enough n c h)) (omega arith)
 
 -- the reply to a quote: an answer, or a refusal
 pub answers : (n left : ℕ) (time root v : Float) (c : Counted Outcome) {w : Float}
-    → have (total v) left ≡ limited n c → w ≡ volatilityOver time root v → answer v w (n - left) ≡ replyOver time root c
+    → have (total v) left ≡ limited n c → w ≡ volatility_over time root v → answer v w (n - left) ≡ reply_over time root c
 answers n left time root v c e f =
-    let q = taken-off n left (total v) c e in
+    let q = taken_off n left (total v) c e in
     let d : n - left ≡ c.count = omega arith in
     rw (q.0, f, d)
 
 pub refuses : (n left : ℕ) (time root : Float) (number : ℕ) (c : Counted Outcome)
-    → have (refused number) left ≡ limited n c → refusal number (n - left) ≡ replyOver time root c
+    → have (refused number) left ≡ limited n c → refusal number (n - left) ≡ reply_over time root c
 refuses n left time root number c e =
-    let q = taken-off n left (refused number) c e in
+    let q = taken_off n left (refused number) c e in
     let d : n - left ≡ c.count = omega arith in
     rw (q.0, d)
 
 -- the root of the time of the normalised entry, which is 1
-pub root-one : one ≡ sqrt one
+pub root_one : one ≡ sqrt one
 unfolding sqrt of_bits
-root-one = refl
+root_one = refl

@@ -1,9 +1,9 @@
 // The quote entry: the price is divided by a discount factor, and solved as the source solves a price that is not discounted.
 ghost use Rattle.std.specs.Prelude.{◌≡◌};
 ghost use Rattle.inverse_gaussian.specs.Counted.{limited};
-ghost use Rattle.explicit_black.specs.Discount.{discountedRefusal, fromDiscountedQuote, impliedBlackVolatilityDiscounted};
-ghost use Rattle.explicit_black.specs.Internal.Quote.{viewSolved};
-ghost use Rattle.explicit_black.specs.Replies.{viewReply};
+ghost use Rattle.explicit_black.specs.Discount.{discounted_refusal, from_discounted_quote, implied_black_volatility_discounted};
+ghost use Rattle.explicit_black.specs.Internal.Quote.{view_solved};
+ghost use Rattle.explicit_black.specs.Replies.{view_reply};
 
 use crate::quote::{MAX_EVALUATIONS, Reply, Solved, first_refusal, from_figures};
 use arithmetic::basic::is_finite;
@@ -19,7 +19,7 @@ fn discounted_refusal(
     time: f64,
     factor: f64,
 ) -> u32
-    ensures { result ≡ discountedRefusal side price forward strike time factor }
+    ensures { result ≡ discounted_refusal side price forward strike time factor }
 {
     if !is_finite(factor) {
         return if side > 1 { 1 } else { 2 };
@@ -41,7 +41,7 @@ pub fn from_discounted_quote(
     factor: f64,
     allowed: Allowance,
 ) -> Solved
-    ensures { viewSolved result ≡ limited allowed.left (fromDiscountedQuote side price forward strike time factor) }
+    ensures { view_solved result ≡ limited allowed.left (from_discounted_quote side price forward strike time factor) }
 {
     let number = discounted_refusal(side, price, forward, strike, time, factor);
     if number != 0 {
@@ -58,7 +58,7 @@ pub fn implied_black_volatility_discounted(
     time: f64,
     factor: f64,
 ) -> Reply
-    ensures { viewReply result ≡ impliedBlackVolatilityDiscounted side price forward strike time factor }
+    ensures { view_reply result ≡ implied_black_volatility_discounted side price forward strike time factor }
 {
     let allowed = Allowance::new(MAX_EVALUATIONS);
     let solved = from_discounted_quote(side, price, forward, strike, time, factor, allowed);

@@ -1,7 +1,7 @@
 // The price entry: the price of a volatility, or the number of a refusal.
 ghost use Rattle.std.specs.Prelude.{◌≡◌};
-ghost use Rattle.explicit_black.specs.Price.{priceRefusal, timeValue, priceOf, blackPrice};
-ghost use Rattle.explicit_black.specs.Replies.{viewPriceReply};
+ghost use Rattle.explicit_black.specs.Price.{price_refusal, time_value, price_of, black_price};
+ghost use Rattle.explicit_black.specs.Replies.{view_price_reply};
 
 use crate::quote::{first_refusal, intrinsic_value};
 use arithmetic::sqrt::sqrt;
@@ -16,7 +16,7 @@ pub enum PriceReply {
 
 // The number of the first of tests 1 to 4 and 11 that applies, or 0. The volatility takes the price's place in tests 1 to 4.
 fn price_refusal(side: u32, volatility: f64, forward: f64, strike: f64, time: f64) -> u32
-    ensures { result ≡ priceRefusal side volatility forward strike time }
+    ensures { result ≡ price_refusal side volatility forward strike time }
 {
     let first = first_refusal(side, volatility, forward, strike, time);
     if first != 0 {
@@ -27,7 +27,7 @@ fn price_refusal(side: u32, volatility: f64, forward: f64, strike: f64, time: f6
 
 // The part of the price that the intrinsic value, where it is above 0, is added to. s is the total volatility.
 fn time_value(forward: f64, strike: f64, s: f64) -> f64
-    ensures { result ≡ timeValue forward strike s }
+    ensures { result ≡ time_value forward strike s }
 {
     let x = negative_abs_log_moneyness(forward, strike);
     sqrt(forward) * sqrt(strike) * normalised_black(x / 2.0, x / s, s / 2.0)
@@ -35,7 +35,7 @@ fn time_value(forward: f64, strike: f64, s: f64) -> f64
 
 // The price at the total volatility s.
 fn price_of(side: u32, forward: f64, strike: f64, s: f64) -> f64
-    ensures { result ≡ priceOf side forward strike s }
+    ensures { result ≡ price_of side forward strike s }
 {
     let intrinsic = intrinsic_value(side, forward, strike);
     if s == 0.0 {
@@ -52,7 +52,7 @@ fn price_of(side: u32, forward: f64, strike: f64, s: f64) -> f64
 }
 
 pub fn black_price(side: u32, volatility: f64, forward: f64, strike: f64, time: f64) -> PriceReply
-    ensures { viewPriceReply result ≡ blackPrice side volatility forward strike time }
+    ensures { view_price_reply result ≡ black_price side volatility forward strike time }
 {
     let number = price_refusal(side, volatility, forward, strike, time);
     if number != 0 {

@@ -2,18 +2,18 @@
 ghost use Rattle.std.specs.Prelude.{◌≡◌, ◌&&◌};
 ghost use Rattle.std.specs.Float.Ieee.{lt};
 ghost use Rattle.arithmetic.specs.Basic.{is_finite};
-ghost use Rattle.arithmetic.specs.Operations.{◌⊗◌, plusZero};
+ghost use Rattle.arithmetic.specs.Operations.{◌⊗◌, plus_zero};
 ghost use Rattle.arithmetic.specs.Sqrt.{sqrt};
-ghost use Rattle.bs_option_price.specs.BsOptionPrice.{negativeAbsLogMoneyness};
+ghost use Rattle.bs_option_price.specs.BsOptionPrice.{negative_abs_log_moneyness};
 ghost use Rattle.inverse_gaussian.specs.Counted.{at_once, mapped, limited};
-ghost use Rattle.inverse_gaussian.specs.Internal.Searches.{viewQuantile};
-ghost use Rattle.explicit_black.specs.Quote.{impliedNormalisedVolatilityAtm, atTheMoney, totalAt, fromCallPrice, fromNormalisedPrice};
-ghost use Rattle.explicit_black.specs.Quote.{volatilityOver, replyOver};
-ghost use Rattle.explicit_black.specs.Quote.{firstRefusal, intrinsicValue, priceBound, boundTests, normalisedTimeValue};
-ghost use Rattle.explicit_black.specs.Quote.{fromTimeValue, fromPrice, fromFigures, fromQuote};
-ghost use Rattle.explicit_black.specs.Quote.{impliedBlackVolatilityNormalised, impliedBlackVolatilityInput};
-ghost use Rattle.explicit_black.specs.Internal.Quote.{viewSolved, viewTested, LeftWithin, RepliesTo};
-ghost use Rattle.explicit_black.specs.Replies.{viewReply};
+ghost use Rattle.inverse_gaussian.specs.Internal.Searches.{view_quantile};
+ghost use Rattle.explicit_black.specs.Quote.{implied_normalised_volatility_atm, at_the_money, total_at, from_call_price, from_normalised_price};
+ghost use Rattle.explicit_black.specs.Quote.{volatility_over, reply_over};
+ghost use Rattle.explicit_black.specs.Quote.{first_refusal, intrinsic_value, price_bound, bound_tests, normalised_time_value};
+ghost use Rattle.explicit_black.specs.Quote.{from_time_value, from_price, from_figures, from_quote};
+ghost use Rattle.explicit_black.specs.Quote.{implied_black_volatility_normalised, implied_black_volatility_input};
+ghost use Rattle.explicit_black.specs.Internal.Quote.{view_solved, view_tested, LeftWithin, RepliesTo};
+ghost use Rattle.explicit_black.specs.Replies.{view_reply};
 
 use arithmetic::basic::{abs, is_finite, max};
 use arithmetic::constants::{MIN_POSITIVE, SQRT_2};
@@ -62,7 +62,7 @@ fn are_finite(x: f64, y: f64) -> bool
 
 // total / root_time; at time zero 0.
 pub fn volatility(total: f64, time: f64, root_time: f64) -> f64
-    ensures { result ≡ volatilityOver time root_time total }
+    ensures { result ≡ volatility_over time root_time total }
 {
     if time == 0.0 { 0.0 } else { total / root_time }
 }
@@ -70,8 +70,8 @@ pub fn volatility(total: f64, time: f64, root_time: f64) -> f64
 impl Solved {
     // The reply to a quote that was allowed so many evaluations: the count is what its calls took off.
     pub(crate) fn reply(self, allowed: u64, time: f64, root_time: f64) -> Reply
-        requires { LeftWithin allowed (viewSolved self) }
-        ensures { RepliesTo allowed time root_time (viewSolved self) (viewReply result) }
+        requires { LeftWithin allowed (view_solved self) }
+        ensures { RepliesTo allowed time root_time (view_solved self) (view_reply result) }
     {
         match self {
             Solved::Total(total, rest) => Reply::Answer {
@@ -93,14 +93,14 @@ impl Solved {
 }
 
 fn implied_normalised_volatility_atm(beta: f64) -> f64
-    ensures { result ≡ impliedNormalisedVolatilityAtm beta }
+    ensures { result ≡ implied_normalised_volatility_atm beta }
 {
     2.0 * SQRT_2 * erfinv(beta)
 }
 
 // The closed form at the money, refused where its value is NaN or below 0.
 fn at_the_money(price: f64, allowed: Allowance) -> Solved
-    ensures { viewSolved result ≡ limited allowed.left (at_once (atTheMoney price)) }
+    ensures { view_solved result ≡ limited allowed.left (at_once (at_the_money price)) }
 {
     let total = implied_normalised_volatility_atm(price);
     if total >= 0.0 {
@@ -111,7 +111,7 @@ fn at_the_money(price: f64, allowed: Allowance) -> Solved
 
 // The total volatility at the root of a search, refused where there is none that is finite and above 0.
 fn total_at(root: Quantile) -> Solved
-    ensures { viewSolved result ≡ mapped totalAt (viewQuantile root) }
+    ensures { view_solved result ≡ mapped total_at (view_quantile root) }
 {
     match root {
         Quantile::Root(x, left) => {
@@ -128,7 +128,7 @@ fn total_at(root: Quantile) -> Solved
 // Solves from the price of the out-of-the-money call as a fraction of its bound, which is the survival probability at
 // the root.
 fn from_call_price(otm_call_price: f64, mu: f64, allowed: Allowance) -> Solved
-    ensures { viewSolved result ≡ limited allowed.left (fromCallPrice otm_call_price mu) }
+    ensures { view_solved result ≡ limited allowed.left (from_call_price otm_call_price mu) }
 {
     if otm_call_price < 1.0e-5 {
         return total_at(inverse_gaussian_quantile_from_survival(otm_call_price, mu, allowed));
@@ -146,7 +146,7 @@ fn from_call_price(otm_call_price: f64, mu: f64, allowed: Allowance) -> Solved
 
 // Solves from the normalised price, after test 2: tests 7, 8 and 9.
 pub fn from_normalised_price(log_moneyness: f64, price: f64, allowed: Allowance) -> Solved
-    ensures { viewSolved result ≡ limited allowed.left (fromNormalisedPrice log_moneyness price) }
+    ensures { view_solved result ≡ limited allowed.left (from_normalised_price log_moneyness price) }
 {
     if price <= 0.0 {
         if price == 0.0 {
@@ -169,7 +169,7 @@ pub fn from_normalised_price(log_moneyness: f64, price: f64, allowed: Allowance)
 }
 
 pub fn implied_black_volatility_normalised(log_moneyness: f64, normalised_price: f64) -> Reply
-    ensures { viewReply result ≡ impliedBlackVolatilityNormalised log_moneyness normalised_price }
+    ensures { view_reply result ≡ implied_black_volatility_normalised log_moneyness normalised_price }
 {
     if !are_finite(log_moneyness, normalised_price) {
         return Reply::Refusal {
@@ -184,14 +184,14 @@ pub fn implied_black_volatility_normalised(log_moneyness: f64, normalised_price:
 }
 
 fn are_above_zero(forward: f64, strike: f64) -> bool
-    ensures { result ≡ (lt plusZero forward && lt plusZero strike) }
+    ensures { result ≡ (lt plus_zero forward && lt plus_zero strike) }
 {
     forward > 0.0 && strike > 0.0
 }
 
 // The number of the first of tests 1 to 4 that applies, or 0.
 pub fn first_refusal(side: u32, price: f64, forward: f64, strike: f64, time: f64) -> u32
-    ensures { result ≡ firstRefusal side price forward strike time }
+    ensures { result ≡ first_refusal side price forward strike time }
 {
     if side > 1 {
         return 1;
@@ -209,7 +209,7 @@ pub fn first_refusal(side: u32, price: f64, forward: f64, strike: f64, time: f64
 }
 
 pub fn intrinsic_value(side: u32, forward: f64, strike: f64) -> f64
-    ensures { result ≡ intrinsicValue side forward strike }
+    ensures { result ≡ intrinsic_value side forward strike }
 {
     if side == 0 {
         forward - strike
@@ -220,14 +220,14 @@ pub fn intrinsic_value(side: u32, forward: f64, strike: f64) -> f64
 
 // No price is above the forward of a call, or the strike of a put.
 pub fn price_bound(side: u32, forward: f64, strike: f64) -> f64
-    ensures { result ≡ priceBound side forward strike }
+    ensures { result ≡ price_bound side forward strike }
 {
     if side == 0 { forward } else { strike }
 }
 
 // The price without its intrinsic value, over `roots`, the product of the roots of forward and strike.
 fn normalised_time_value(price: f64, intrinsic: f64, roots: f64) -> f64
-    ensures { result ≡ normalisedTimeValue price intrinsic roots }
+    ensures { result ≡ normalised_time_value price intrinsic roots }
 {
     if intrinsic > 0.0 {
         return (price - intrinsic) / roots;
@@ -237,7 +237,7 @@ fn normalised_time_value(price: f64, intrinsic: f64, roots: f64) -> f64
 
 // Solves from the normalised time value: test 7, and those of the normalised price.
 pub fn from_time_value(forward: f64, strike: f64, time_value: f64, allowed: Allowance) -> Solved
-    ensures { viewSolved result ≡ limited allowed.left (fromTimeValue (negativeAbsLogMoneyness forward strike) time_value) }
+    ensures { view_solved result ≡ limited allowed.left (from_time_value (negative_abs_log_moneyness forward strike) time_value) }
 {
     if time_value <= MIN_POSITIVE {
         if time_value >= 0.0 {
@@ -262,7 +262,7 @@ pub enum Tested {
 
 // Test 5, the price at time zero, and test 6, the bound of the price.
 pub fn bound_tests(price: f64, intrinsic: f64, bound: f64, time: f64) -> Tested
-    ensures { viewTested result ≡ boundTests price intrinsic bound time }
+    ensures { view_tested result ≡ bound_tests price intrinsic bound time }
 {
     if time == 0.0 {
         if price == max(intrinsic, 0.0) {
@@ -289,8 +289,8 @@ pub fn from_roots(
     root_strike: f64,
     allowed: Allowance,
 ) -> Solved
-    ensures { viewSolved result ≡ limited allowed.left
-        (fromTimeValue (negativeAbsLogMoneyness forward strike) (normalisedTimeValue price intrinsic (root_forward ⊗ root_strike))) }
+    ensures { view_solved result ≡ limited allowed.left
+        (from_time_value (negative_abs_log_moneyness forward strike) (normalised_time_value price intrinsic (root_forward ⊗ root_strike))) }
 {
     let time_value = normalised_time_value(price, intrinsic, root_forward * root_strike);
     from_time_value(forward, strike, time_value, allowed)
@@ -308,8 +308,8 @@ pub fn reply_from_roots(
     time: f64,
     root_time: f64,
 ) -> Reply
-    ensures { viewReply result ≡ replyOver time root_time
-        (fromTimeValue (negativeAbsLogMoneyness forward strike) (normalisedTimeValue price intrinsic (root_forward ⊗ root_strike))) }
+    ensures { view_reply result ≡ reply_over time root_time
+        (from_time_value (negative_abs_log_moneyness forward strike) (normalised_time_value price intrinsic (root_forward ⊗ root_strike))) }
 {
     let allowed = Allowance::new(MAX_EVALUATIONS);
     let solved = from_roots(
@@ -334,8 +334,8 @@ pub fn from_price(
     time: f64,
     allowed: Allowance,
 ) -> Solved
-    ensures { viewSolved result ≡ limited allowed.left
-        (fromPrice price intrinsic bound (sqrt forward ⊗ sqrt strike) (negativeAbsLogMoneyness forward strike) time) }
+    ensures { view_solved result ≡ limited allowed.left
+        (from_price price intrinsic bound (sqrt forward ⊗ sqrt strike) (negative_abs_log_moneyness forward strike) time) }
 {
     match bound_tests(price, intrinsic, bound, time) {
         Tested::Total(total) => Solved::Total(total, allowed),
@@ -361,7 +361,7 @@ pub fn from_figures(
     time: f64,
     allowed: Allowance,
 ) -> Solved
-    ensures { viewSolved result ≡ limited allowed.left (fromFigures side price forward strike time) }
+    ensures { view_solved result ≡ limited allowed.left (from_figures side price forward strike time) }
 {
     let intrinsic = intrinsic_value(side, forward, strike);
     let bound = price_bound(side, forward, strike);
@@ -377,7 +377,7 @@ pub fn from_quote(
     time: f64,
     allowed: Allowance,
 ) -> Solved
-    ensures { viewSolved result ≡ limited allowed.left (fromQuote side price forward strike time) }
+    ensures { view_solved result ≡ limited allowed.left (from_quote side price forward strike time) }
 {
     let number = first_refusal(side, price, forward, strike, time);
     if number != 0 {
@@ -393,7 +393,7 @@ pub fn implied_black_volatility_input(
     strike: f64,
     time: f64,
 ) -> Reply
-    ensures { viewReply result ≡ impliedBlackVolatilityInput side price forward strike time }
+    ensures { view_reply result ≡ implied_black_volatility_input side price forward strike time }
 {
     let allowed = Allowance::new(MAX_EVALUATIONS);
     let solved = from_quote(side, price, forward, strike, time, allowed);

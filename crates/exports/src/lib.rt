@@ -1,25 +1,25 @@
 // The C interface: the layers' functions, the entries, sheets and the window, on numbers and lent bytes. include/quoter.h declares it.
 ghost use Rattle.std.specs.Prelude.{◌≡◌};
 ghost use Rattle.arithmetic.specs.Sqrt.{sqrt};
-ghost use Rattle.arithmetic.specs.MulAdd.{mulAdd};
+ghost use Rattle.arithmetic.specs.MulAdd.{mul_add};
 ghost use Rattle.arithmetic.specs.Exp.{exp};
 ghost use Rattle.arithmetic.specs.Ln.{ln, ln1p};
 ghost use Rattle.arithmetic.specs.Basic.{trunc};
-ghost use Rattle.special_function.specs.ErrorFunction.{erfCody, erfcCody, erfcxCody};
+ghost use Rattle.special_function.specs.ErrorFunction.{erf_cody, erfc_cody, erfcx_cody};
 ghost use Rattle.special_function.specs.Erfinv.{erfinv};
-ghost use Rattle.special_function.specs.NormalDistribution.{normPdf, normCdf, inverseNormCdf};
-ghost use Rattle.bs_option_price.specs.BsOptionPrice.{normalisedBlack, negativeAbsLogMoneyness};
-ghost use Rattle.inverse_gaussian.specs.Curves.{inverseGaussianCdf, inverseGaussianSurvival};
-ghost use Rattle.explicit_black.specs.Quote.{impliedBlackVolatilityNormalised};
-ghost use Rattle.explicit_black.specs.Discount.{impliedBlackVolatilityDiscounted};
-ghost use Rattle.explicit_black.specs.Price.{blackPrice};
-ghost use Rattle.explicit_black.specs.Replies.{viewReply};
+ghost use Rattle.special_function.specs.NormalDistribution.{norm_pdf, norm_cdf, inverse_norm_cdf};
+ghost use Rattle.bs_option_price.specs.BsOptionPrice.{normalised_black, negative_abs_log_moneyness};
+ghost use Rattle.inverse_gaussian.specs.Curves.{inverse_gaussian_cdf, inverse_gaussian_survival};
+ghost use Rattle.explicit_black.specs.Quote.{implied_black_volatility_normalised};
+ghost use Rattle.explicit_black.specs.Discount.{implied_black_volatility_discounted};
+ghost use Rattle.explicit_black.specs.Price.{black_price};
+ghost use Rattle.explicit_black.specs.Replies.{view_reply};
 ghost use Rattle.ladder.specs.Ladder.{ladder};
-ghost use Rattle.cable_window.specs.Window.{offsetRefusal, afterWrite};
-ghost use Rattle.xdr_sheet.specs.Sheet.{size, sheetReply};
+ghost use Rattle.cable_window.specs.Window.{offset_refusal, after_write};
+ghost use Rattle.xdr_sheet.specs.Sheet.{size, sheet_reply};
 ghost use Rattle.xdr_sheet.specs.Tally.{tally_of};
-ghost use Rattle.exports.specs.ToC.{handedReply, replyToC, sheetReplyToC, handedPrice, priceToC, handedLadder, ladderToC};
-ghost use Rattle.exports.specs.ToC.{handedSize, sizeToC, tallyAfter, handedLine, lineToC};
+ghost use Rattle.exports.specs.ToC.{handed_reply, reply_to_c, sheet_reply_to_c, handed_price, price_to_c, handed_ladder, ladder_to_c};
+ghost use Rattle.exports.specs.ToC.{handed_size, size_to_c, tally_after, handed_line, line_to_c};
 
 use cable_window::window::Window;
 use explicit_black::price::PriceReply;
@@ -40,7 +40,7 @@ pub extern "C" fn quoter_sqrt(x: f64) -> f64
 
 #[unsafe(no_mangle)]
 pub extern "C" fn quoter_mul_add(x: f64, a: f64, b: f64) -> f64
-    ensures { result ≡ mulAdd x a b }
+    ensures { result ≡ mul_add x a b }
 {
     arithmetic::mul_add::mul_add(x, a, b)
 }
@@ -75,21 +75,21 @@ pub extern "C" fn quoter_trunc(x: f64) -> f64
 
 #[unsafe(no_mangle)]
 pub extern "C" fn quoter_erf_cody(x: f64) -> f64
-    ensures { result ≡ erfCody x }
+    ensures { result ≡ erf_cody x }
 {
     special_function::error_function::erf_cody(x)
 }
 
 #[unsafe(no_mangle)]
 pub extern "C" fn quoter_erfc_cody(x: f64) -> f64
-    ensures { result ≡ erfcCody x }
+    ensures { result ≡ erfc_cody x }
 {
     special_function::error_function::erfc_cody(x)
 }
 
 #[unsafe(no_mangle)]
 pub extern "C" fn quoter_erfcx_cody(x: f64) -> f64
-    ensures { result ≡ erfcxCody x }
+    ensures { result ≡ erfcx_cody x }
 {
     special_function::error_function::erfcx_cody(x)
 }
@@ -103,42 +103,42 @@ pub extern "C" fn quoter_erfinv(e: f64) -> f64
 
 #[unsafe(no_mangle)]
 pub extern "C" fn quoter_norm_pdf(x2: f64) -> f64
-    ensures { result ≡ normPdf x2 }
+    ensures { result ≡ norm_pdf x2 }
 {
     special_function::normal_distribution::norm_pdf(x2)
 }
 
 #[unsafe(no_mangle)]
 pub extern "C" fn quoter_norm_cdf(z: f64) -> f64
-    ensures { result ≡ normCdf z }
+    ensures { result ≡ norm_cdf z }
 {
     special_function::normal_distribution::norm_cdf(z)
 }
 
 #[unsafe(no_mangle)]
 pub extern "C" fn quoter_inverse_norm_cdf(p: f64) -> f64
-    ensures { result ≡ inverseNormCdf p }
+    ensures { result ≡ inverse_norm_cdf p }
 {
     special_function::normal_distribution::inverse_norm_cdf(p)
 }
 
 #[unsafe(no_mangle)]
 pub extern "C" fn quoter_normalised_black(x: f64, h: f64, t: f64) -> f64
-    ensures { result ≡ normalisedBlack x h t }
+    ensures { result ≡ normalised_black x h t }
 {
     bs_option_price::normalised_black(x, h, t)
 }
 
 #[unsafe(no_mangle)]
 pub extern "C" fn quoter_negative_abs_log_moneyness(f: f64, k: f64) -> f64
-    ensures { result ≡ negativeAbsLogMoneyness f k }
+    ensures { result ≡ negative_abs_log_moneyness f k }
 {
     bs_option_price::negative_abs_log_moneyness(f, k)
 }
 
 #[unsafe(no_mangle)]
 pub extern "C" fn quoter_inverse_gaussian_cdf(x: f64, mu: f64) -> f64
-    ensures { result ≡ inverseGaussianCdf x mu }
+    ensures { result ≡ inverse_gaussian_cdf x mu }
 {
     match inverse_gaussian::curves::inverse_gaussian_cdf(x, mu, Allowance::new(1)) {
         Evaluation::Value {
@@ -155,7 +155,7 @@ pub extern "C" fn quoter_inverse_gaussian_cdf(x: f64, mu: f64) -> f64
 
 #[unsafe(no_mangle)]
 pub extern "C" fn quoter_inverse_gaussian_survival(x: f64, mu: f64) -> f64
-    ensures { result ≡ inverseGaussianSurvival x mu }
+    ensures { result ≡ inverse_gaussian_survival x mu }
 {
     match inverse_gaussian::curves::inverse_gaussian_survival(x, mu, Allowance::new(1)) {
         SurvivalEvaluation::Value {
@@ -171,8 +171,8 @@ pub extern "C" fn quoter_inverse_gaussian_survival(x: f64, mu: f64) -> f64
 
 // Writes a reply to the caller's places. A refusal writes its count and leaves the two figures as they were.
 fn hand(reply: Reply, total: &mut f64, volatility: &mut f64, count: &mut u64) -> u32
-    ensures { handedReply result total.new volatility.new count.new
-        ≡ replyToC total.old volatility.old (viewReply reply) }
+    ensures { handed_reply result total.new volatility.new count.new
+        ≡ reply_to_c total.old volatility.old (view_reply reply) }
 {
     match reply {
         Reply::Answer {
@@ -204,8 +204,8 @@ pub extern "C" fn quoter_quote(
     volatility: &mut f64,
     count: &mut u64,
 ) -> u32
-    ensures { handedReply result total.new volatility.new count.new
-        ≡ replyToC total.old volatility.old (impliedBlackVolatilityDiscounted side price forward strike time factor) }
+    ensures { handed_reply result total.new volatility.new count.new
+        ≡ reply_to_c total.old volatility.old (implied_black_volatility_discounted side price forward strike time factor) }
 {
     let reply = explicit_black::discount::implied_black_volatility_discounted(
         side, price, forward, strike, time, factor,
@@ -221,8 +221,8 @@ pub extern "C" fn quoter_normalised(
     volatility: &mut f64,
     count: &mut u64,
 ) -> u32
-    ensures { handedReply result total.new volatility.new count.new
-        ≡ replyToC total.old volatility.old (impliedBlackVolatilityNormalised log_moneyness price) }
+    ensures { handed_reply result total.new volatility.new count.new
+        ≡ reply_to_c total.old volatility.old (implied_black_volatility_normalised log_moneyness price) }
 {
     let reply = explicit_black::quote::implied_black_volatility_normalised(log_moneyness, price);
     hand(reply, total, volatility, count)
@@ -238,8 +238,8 @@ pub extern "C" fn quoter_price(
     time: f64,
     price: &mut f64,
 ) -> u32
-    ensures { handedPrice result price.new
-        ≡ priceToC price.old (blackPrice side volatility forward strike time) }
+    ensures { handed_price result price.new
+        ≡ price_to_c price.old (black_price side volatility forward strike time) }
 {
     match explicit_black::price::black_price(side, volatility, forward, strike, time) {
         PriceReply::Price(p) => {
@@ -265,8 +265,8 @@ pub extern "C" fn quoter_ladder(
     refusals: &mut [u32],
     roots: &mut u64,
 ) -> u32
-    ensures { handedLadder result roots.new totals.new volatilities.new counts.new refusals.new
-        ≡ ladderToC roots.old (ladder side forward time strikes.now prices.now
+    ensures { handed_ladder result roots.new totals.new volatilities.new counts.new refusals.new
+        ≡ ladder_to_c roots.old (ladder side forward time strikes.now prices.now
         totals.old volatilities.old counts.old refusals.old) }
 {
     match ladder::ladder::implied_black_volatility_ladder(
@@ -291,7 +291,7 @@ pub extern "C" fn quoter_ladder(
 // How many quotes a sheet has. 0: their number is written. Else the number of the refusal.
 #[unsafe(no_mangle)]
 pub extern "C" fn quoter_sheet_size(sheet: &[u8], quotes: &mut u32) -> u32
-    ensures { handedSize result quotes.new ≡ sizeToC quotes.old (size sheet.now) }
+    ensures { handed_size result quotes.new ≡ size_to_c quotes.old (size sheet.now) }
 {
     match xdr_sheet::sheet::quotes_in(sheet) {
         Size::Quotes(n) => {
@@ -314,8 +314,8 @@ pub extern "C" fn quoter_sheet_quote(
     volatility: &mut f64,
     count: &mut u64,
 ) -> u32
-    ensures { handedReply result total.new volatility.new count.new
-        ≡ sheetReplyToC total.old volatility.old count.old (sheetReply sheet.now index) }
+    ensures { handed_reply result total.new volatility.new count.new
+        ≡ sheet_reply_to_c total.old volatility.old count.old (sheet_reply sheet.now index) }
 {
     match xdr_sheet::sheet::reply(sheet, index) {
         SheetReply::Replied(reply) => hand(reply, total, volatility, count),
@@ -325,7 +325,7 @@ pub extern "C" fn quoter_sheet_quote(
 
 // The tally after a line: with the line's quote, or as before after the last line and that of a refused sheet.
 fn tally_after(tally: Tally, progress: Progress) -> Tally
-    ensures { result ≡ tallyAfter tally progress }
+    ensures { result ≡ tally_after tally progress }
 {
     match progress {
         Progress::Tallied(next) => next,
@@ -345,8 +345,8 @@ pub extern "C" fn quoter_sheet_line(
     text: &mut [u8],
     count: &mut u64,
 ) -> u32
-    ensures { handedLine result count.new (tally_of finite.new infinite.new refusals.new) text.new
-        ≡ lineToC count.old (tally_of finite.old infinite.old refusals.old) text.old
+    ensures { handed_line result count.new (tally_of finite.new infinite.new refusals.new) text.new
+        ≡ line_to_c count.old (tally_of finite.old infinite.old refusals.old) text.old
         sheet.now }
 {
     let tally = Tally {
@@ -373,7 +373,7 @@ pub extern "C" fn quoter_sheet_line(
 // A word written to a window, which C lends as its 64 bytes. 0, or 14 with the window as it was.
 #[unsafe(no_mangle)]
 pub extern "C" fn quoter_window_write(window: &mut Window, offset: u32, word: u32) -> u32
-    ensures { (result ≡ offsetRefusal offset) × (window.new.bytes ≡ afterWrite window.old.bytes offset word) }
+    ensures { (result ≡ offset_refusal offset) × (window.new.bytes ≡ after_write window.old.bytes offset word) }
 {
     cable_window::window::write(window, offset, word)
 }

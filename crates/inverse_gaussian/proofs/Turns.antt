@@ -7,11 +7,11 @@ use Rattle.arithmetic.specs.Operations.{◌⊗◌}
 use Rattle.inverse_gaussian.specs.declared.bracket.Bracket.{Bracket}
 use Rattle.inverse_gaussian.specs.Counted.{Option, Sample, sample, at_once, tick, Metered, have, spent, limited}
 use Rattle.inverse_gaussian.specs.Loops.{Next, go, stop, Loop}
-use Rattle.inverse_gaussian.specs.Curves.{inverseGaussianPdf}
-use Rattle.inverse_gaussian.specs.Bracket.{bracketMidpoint}
-use Rattle.inverse_gaussian.specs.Newton.{newtonLoop, last, later, numerator, nrstep, inverseGaussianCdfStandardized}
-use Rattle.inverse_gaussian.specs.Laws.Counted.{Carried, carried_on, carried-at, carried-stop, value_of}
-use Rattle.inverse_gaussian.specs.Laws.Counted.{Left, left-on, left_at, left-none, left-stop, left_out, none_of}
+use Rattle.inverse_gaussian.specs.Curves.{inverse_gaussian_pdf}
+use Rattle.inverse_gaussian.specs.Bracket.{bracket_midpoint}
+use Rattle.inverse_gaussian.specs.Newton.{newton_loop, last, later, numerator, nrstep, inverse_gaussian_cdf_standardized}
+use Rattle.inverse_gaussian.specs.Laws.Counted.{Carried, carried_on, carried_at, carried_stop, value_of}
+use Rattle.inverse_gaussian.specs.Laws.Counted.{Left, left_on, left_at, left_none, left_stop, left_out, none_of}
 
 -- What an evaluation tells a caller who had n allowed: of the curve's value w and the density q at its point
 -- it gives v and d, and m are left.
@@ -38,41 +38,41 @@ module _ {S R : Type 0} {l : Loop S R} {k : ℕ} {a : Metered R} {n : ℕ} where
       record { fewer = omega arith; carried = carried_on i o (ap (l.advance s) e.value ∙ sym h) }
 
   pub found : {x : Next S R} {r : R} → Carried l k a n x → x ≡ stop r → have r n ≡ a
-  found i e = sym (carried-stop (carried-at i e))
+  found i e = sym (carried_stop (carried_at i e))
 
 -- ---- a loop that counts its turns
 
 module _ {S R : Type 0} {l : Loop S R} {k : ℕ} {a : Metered R} {n : ℕ} where
-  pub left-found : {x : Next S R} {r : R} → Left l k a n x → x ≡ stop r → have r n ≡ a
-  left-found i e = sym (left-stop (left_at i e))
+  pub left_found : {x : Next S R} {r : R} → Left l k a n x → x ≡ stop r → have r n ≡ a
+  left_found i e = sym (left_stop (left_at i e))
 
-  pub left-no-value : {s : S} (w : Sample) → Left l k a n (go s) → 0 < k → spent ≡ limited n (tick (at_once w)) → spent ≡ a
-  left-no-value w i h e = let f : k ≡ suc (k - 1) = omega arith in sym (left-none (k - 1) i f (none_of w e))
+  pub left_no_value : {s : S} (w : Sample) → Left l k a n (go s) → 0 < k → spent ≡ limited n (tick (at_once w)) → spent ≡ a
+  left_no_value w i h e = let f : k ≡ suc (k - 1) = omega arith in sym (left_none (k - 1) i f (none_of w e))
 
 -- a search in a bracket: `it` makes of the density and the curve's value at the point the root, or the next bracket and point
 module _ (curve : Float → Float → Float) (it : Float → Float → Bracket × Float → Float → Next (Bracket × Float) Float) where
-  abbrev searchLoop : Float → Float → Loop (Bracket × Float) Float
-  searchLoop mu p = record {
+  abbrev search_loop : Float → Float → Loop (Bracket × Float) Float
+  search_loop mu p = record {
     ask = λ x. curve x mu;
     point = λ s. s.1;
-    advance = λ s v. it (inverseGaussianPdf s.1 mu) p s v;
-    out = λ s. bracketMidpoint s.0;
+    advance = λ s v. it (inverse_gaussian_pdf s.1 mu) p s v;
+    out = λ s. bracket_midpoint s.0;
   }
 
   pub iterated : {mu p x v d pdf : Float} {b : Bracket} {k j n m : ℕ} {a : Metered Float} {y : Next (Bracket × Float) Float}
-      → Left (searchLoop mu p) k a n (go (b, x)) → k ≡ suc j → Told (curve x mu) (inverseGaussianPdf x mu) n v d m
-      → pdf ≡ d → y ≡ it pdf p (b, x) v → Left (searchLoop mu p) j a m y
-  iterated i f e o h = left-on i f e.one_fewer (rw (e.value, e.density, ← o) (sym h))
+      → Left (search_loop mu p) k a n (go (b, x)) → k ≡ suc j → Told (curve x mu) (inverse_gaussian_pdf x mu) n v d m
+      → pdf ≡ d → y ≡ it pdf p (b, x) v → Left (search_loop mu p) j a m y
+  iterated i f e o h = left_on i f e.one_fewer (rw (e.value, e.density, ← o) (sym h))
 
 -- the Newton steps after the first
 module _ (p lp mu : Float) {k n : ℕ} {a : Metered (Option Float)} where
   pub stepped : {x direction v d error : Float} {t : Option Float} {j m : ℕ} {y : Next (Float × Float) (Option Float)}
-      → Left (newtonLoop p lp mu) k a n (go (x, direction)) → k ≡ suc j
-      → Told (inverseGaussianCdfStandardized x mu) (inverseGaussianPdf (x ⊗ mu) mu) n v d m
-      → error ≡ numerator v p lp → t ≡ nrstep (mu ⊗ d) error → y ≡ later mu x direction t → Left (newtonLoop p lp mu) j a m y
-  stepped i f e g h q = left-on i f e.one_fewer (rw (e.value, e.density, ← g, ← h) (sym q))
+      → Left (newton_loop p lp mu) k a n (go (x, direction)) → k ≡ suc j
+      → Told (inverse_gaussian_cdf_standardized x mu) (inverse_gaussian_pdf (x ⊗ mu) mu) n v d m
+      → error ≡ numerator v p lp → t ≡ nrstep (mu ⊗ d) error → y ≡ later mu x direction t → Left (newton_loop p lp mu) j a m y
+  stepped i f e g h q = left_on i f e.one_fewer (rw (e.value, e.density, ← g, ← h) (sym q))
 
   -- no step is left
-  pub left-last : (x : Next (Float × Float) (Option Float)) → Left (newtonLoop p lp mu) k a n x → k ≡ zero → have (last mu x) n ≡ a
-  left-last (go s) i e = sym (left_out i e)
-  left-last (stop t) i e = sym (left-stop i)
+  pub left_last : (x : Next (Float × Float) (Option Float)) → Left (newton_loop p lp mu) k a n x → k ≡ zero → have (last mu x) n ≡ a
+  left_last (go s) i e = sym (left_out i e)
+  left_last (stop t) i e = sym (left_stop i)

@@ -15,14 +15,14 @@ use lib.Ieee.Exact.{HasValue, round_exact}
 use lib.Ieee.Order.{round_mono}
 use lib.Ieee.Scale.{finite}
 use lib.Ieee.Positive.{positive, num, den, den_pos, positive-finite, positive_of_value, value_pos}
-use Rattle.arithmetic.specs.Operations.{◌⊗◌, half, two, minPositive}
-use Rattle.arithmetic.specs.Basic.{isSignMinus}
-use Rattle.arithmetic.specs.Laws.Numbers.{lt-or-le}
-use Rattle.arithmetic.specs.Laws.Times.{cross, rescale, positive-sign, positive-value}
-use Rattle.arithmetic.specs.Laws.Representable.{representable, value-under}
-use Rattle.arithmetic.specs.Laws.Bounds.{round-to-infinity}
+use Rattle.arithmetic.specs.Operations.{◌⊗◌, half, two, min_positive}
+use Rattle.arithmetic.specs.Basic.{is_sign_minus}
+use Rattle.arithmetic.specs.Laws.Numbers.{lt_or_le}
+use Rattle.arithmetic.specs.Laws.Times.{cross, rescale, positive_sign, positive_value}
+use Rattle.arithmetic.specs.Laws.Representable.{representable, value_under}
+use Rattle.arithmetic.specs.Laws.Bounds.{round_to_infinity}
 use Rattle.arithmetic.specs.Laws.Products.{mul_is}
-use Rattle.arithmetic.specs.Laws.ScaledRatios.{minPositive-is}
+use Rattle.arithmetic.specs.Laws.ScaledRatios.{min_positive_is}
 
 -- x is n units
 pub record Units (n : ℕ) (x : Float) : Type 0 where
@@ -35,12 +35,12 @@ pub units : (x : Float) → T (positive x) → T (fits binary64 x) → (n : ℕ)
 units x p f =
     let o = representable binary64 x f (positive-finite x p) in
     let n = o.digits * 2 ^ o.place in
-    (n, value_pos x n (2 ^ 1074) p (pow_pos 1074) (positive-value x n (2 ^ 1074) p o.exact), record { above = p; fit = f; value = o.exact })
+    (n, value_pos x n (2 ^ 1074) p (pow_pos 1074) (positive_value x n (2 ^ 1074) p o.exact), record { above = p; fit = f; value = o.exact })
 
 module _ (n : ℕ) (x : Float) (u : Units n x) where
   -- below the end of the range
   pub under : n < 2 ^ 2098
-  under = value-under binary64 x false n u.fit (positive-value x n (2 ^ 1074) u.above u.value)
+  under = value_under binary64 x false n u.fit (positive_value x n (2 ^ 1074) u.above u.value)
 
   -- n is 53 digits before zeros
   parts : (q : ℕ) × (i : ℕ) × (q < 2 ^ 53) × (n ≡ q * 2 ^ i)
@@ -48,10 +48,10 @@ module _ (n : ℕ) (x : Float) (u : Units n x) where
       let o = representable binary64 x u.fit (positive-finite x u.above) in
       (o.digits, o.place, o.few, eq_of_mul-eq-mul_right (den x) (den_pos x) n (o.digits * 2 ^ o.place) (sym u.value ∙ o.exact))
 
-  module _ (p : Float) (P : T (finite p)) (S : isSignMinus p ≡ false) where
+  module _ (p : Float) (P : T (finite p)) (S : is_sign_minus p ≡ false) where
     -- times p, which is not below 0
     product : x ⊗ p ≡ round binary64 false (num x * num p) (den x * den p)
-    product = mul_is binary64 x p (positive-finite x u.above) P ∙ rw (positive-sign x u.above, S)
+    product = mul_is binary64 x p (positive-finite x u.above) P ∙ rw (positive_sign x u.above, S)
 
     -- a product that is m units, 53 digits before zeros and below the end of the range, is exact
     exact : (m q i : ℕ) → m * den p ≡ n * num p → m ≡ q * 2 ^ i → q < 2 ^ 53 → 0 < m → m < 2 ^ 2098 → Units m (x ⊗ p)
@@ -80,22 +80,22 @@ module _ (n : ℕ) (x : Float) (u : Units n x) where
         w =
             let N = num x * num p in
             let D = den x * den p in
-            let in-range : q * 2 ^ i < 2 ^ 2098 = subst (λ (z : ℕ). z < 2 ^ 2098) d less in
+            let in_range : q * 2 ^ i < 2 ^ 2098 = subst (λ (z : ℕ). z < 2 ^ 2098) d less in
             rescale r false N D m (2 ^ 1074) C (sym same)
-            (round_exact binary64 false N D q i C few in-range (same ∙ ap (λ (z : ℕ). z * D) d))
+            (round_exact binary64 false N D q i C few in_range (same ∙ ap (λ (z : ℕ). z * D) d))
 
   module _ (N : 0 < n) where
     -- twice x overflows or is exact
     pub twice : (x ⊗ two ≡ inf false) ⊎ Units (n * 2) (x ⊗ two)
     unfolding of_bits
-    twice = go (lt-or-le (n * 2) (2 ^ 2098))
+    twice = go (lt_or_le (n * 2) (2 ^ 2098))
       where
         go : (n * 2 < 2 ^ 2098) ⊎ (2 ^ 2098 ≤ n * 2) → (x ⊗ two ≡ inf false) ⊎ Units (n * 2) (x ⊗ two)
         go (inl l) =
             let (q, i, few, d) = parts in
             let e : n * 2 ≡ q * 2 ^ suc i = ap (λ (z : ℕ). z * 2) d ∙ mul_assoc q (2 ^ i) 2 ∙ ap (λ (z : ℕ). q * z) (sym (pow-suc 2 i)) in
             inr (exact two tt refl (n * 2) q (suc i) (mul-one (n * 2)) e few (mul-pos N (pow_pos 1)) l)
-        go (inr g) = inl (product two tt refl ∙ round-to-infinity false (num x * 2) (den x * 1) (mul-pos (den_pos x) (pow_pos 0)) big)
+        go (inr g) = inl (product two tt refl ∙ round_to_infinity false (num x * 2) (den x * 1) (mul-pos (den_pos x) (pow_pos 0)) big)
           where
             big : 2 ^ 1024 * (den x * 1) ≤ num x * 2
             big =
@@ -124,12 +124,12 @@ module _ (n : ℕ) (x : Float) (u : Units n x) where
             (m, e, exact half tt refl m q i (sym e ∙ sym (mul-one n)) refl few (omega arith) (less m (2 ^ 2098) e under))
 
   -- where x is at most 2 ^ -1021, half of it is at most the smallest normal value
-  pub small : n ≤ 2 ^ 53 → le (x ⊗ half) minPositive ≡ true
+  pub small : n ≤ 2 ^ 53 → le (x ⊗ half) min_positive ≡ true
   unfolding of_bits
   small h =
-      is_true (le (x ⊗ half) minPositive)
+      is_true (le (x ⊗ half) min_positive)
       (rw (product half tt refl)
-      (subst (λ (z : Float). T (le (round binary64 false (num x * 1) (den x * 2)) z)) minPositive-is
+      (subst (λ (z : Float). T (le (round binary64 false (num x * 1) (den x * 2)) z)) min_positive_is
       (round_mono binary64 (num x * 1) (den x * 2) 1 (2 ^ 1022) (mul-pos (den_pos x) (pow_pos 1)) (pow_pos 1022) low)))
     where
       low : num x * 1 * 2 ^ 1022 ≤ 1 * (den x * 2)

@@ -33,8 +33,8 @@ or_else (some r) c = at_once r
 or_else none c = c
 
 -- a search that always has a result, as one that might have none
-abbrev pub someOf : {R : Type 0} → Counted R → Counted (Option R)
-someOf c = record { result = some c.result; count = c.count }
+abbrev pub some_of : {R : Type 0} → Counted R → Counted (Option R)
+some_of c = record { result = some c.result; count = c.count }
 
 -- what a caller with an allowance gets: the result with how many evaluations are left, or nothing since the allowance was spent on the way
 pub data Metered (R : Type 0) : Type 0 where
@@ -46,9 +46,9 @@ abbrev pub mapped : {R Q : Type 0} → (R → Q) → Metered R → Metered Q
 mapped f (have r n) = have (f r) n
 mapped f spent = spent
 
--- the same as `someOf`, of what a caller gets
-abbrev pub allSome : {R : Type 0} → Metered R → Metered (Option R)
-allSome m = mapped (λ r. some r) m
+-- the same as `some_of`, of what a caller gets
+abbrev pub all_some : {R : Type 0} → Metered R → Metered (Option R)
+all_some m = mapped (λ r. some r) m
 
 -- with n allowed: the result with n - count left if the count is at most n, and else spent
 unfoldable pub limited : {R : Type 0} → ℕ → Counted R → Metered R

@@ -2,53 +2,53 @@
 -- which a search starts (10.7). Definitions only.
 use Rattle.std.specs.Prelude.{Bool, cond, ◌&&◌, Float}
 use Rattle.std.specs.Float.Ieee.{neg, lt, le}
-use Rattle.arithmetic.specs.Operations.{◌⊕◌, ◌⊖◌, ◌⊗◌, ◌⊘◌, bits, plusZero, half, two, frac1Sqrt2}
+use Rattle.arithmetic.specs.Operations.{◌⊕◌, ◌⊖◌, ◌⊗◌, ◌⊘◌, bits, plus_zero, half, two, frac1_sqrt2}
 use Rattle.arithmetic.specs.Basic.{recip, is_finite}
 use Rattle.arithmetic.specs.Sqrt.{sqrt}
-use Rattle.arithmetic.specs.MulAdd.{mulAdd}
+use Rattle.arithmetic.specs.MulAdd.{mul_add}
 use Rattle.arithmetic.specs.Exp.{exp}
-use Rattle.special_function.specs.ErrorFunction.{erfcxCody}
-use Rattle.special_function.specs.NormalDistribution.{normPdf, normCdf, inverseNormCdf}
-use Rattle.bs_option_price.specs.BsOptionPrice.{normalisedBlack}
+use Rattle.special_function.specs.ErrorFunction.{erfcx_cody}
+use Rattle.special_function.specs.NormalDistribution.{norm_pdf, norm_cdf, inverse_norm_cdf}
+use Rattle.bs_option_price.specs.BsOptionPrice.{normalised_black}
 
 -- finite and above 0: the source writes the two tests in either order, and also denied
-abbrev pub finitePositive : Float → Bool
-finitePositive x = is_finite x && lt plusZero x
+abbrev pub finite_positive : Float → Bool
+finite_positive x = is_finite x && lt plus_zero x
 
 -- `inverse_gaussian_survival`: the probability of the upper tail, which is a normalised Black price divided by its bound exp(-1 / mu)
-unfoldable pub inverseGaussianSurvival : Float → Float → Float
-inverseGaussianSurvival x mu =
-    let sqrtX = sqrt x in
-    normalisedBlack (neg (recip mu)) (neg sqrtX ⊘ mu) (recip sqrtX) ⊘ exp (neg (recip mu))
+unfoldable pub inverse_gaussian_survival : Float → Float → Float
+inverse_gaussian_survival x mu =
+    let sqrt_x = sqrt x in
+    normalised_black (neg (recip mu)) (neg sqrt_x ⊘ mu) (recip sqrt_x) ⊘ exp (neg (recip mu))
 
 -- `inverse_gaussian_quantile_initial_guess_from_z`, with two fused multiply-adds
-unfoldable pub inverseGaussianQuantileInitialGuessFromZ : Float → Float → Float
-inverseGaussianQuantileInitialGuessFromZ z mu =
-    let sqrtDiscriminant = sqrt (mulAdd mu (mu ⊗ z ⊗ z) (bits 0x4010_0000_0000_0000 ⊗ mu)) in  -- 4.0
-    let sqrtX = cond (le plusZero z) (half ⊗ mulAdd mu z sqrtDiscriminant) (two ⊗ mu ⊘ (sqrtDiscriminant ⊖ mu ⊗ z)) in
-    sqrtX ⊗ sqrtX
+unfoldable pub inverse_gaussian_quantile_initial_guess_from_z : Float → Float → Float
+inverse_gaussian_quantile_initial_guess_from_z z mu =
+    let sqrt_discriminant = sqrt (mul_add mu (mu ⊗ z ⊗ z) (bits 0x4010_0000_0000_0000 ⊗ mu)) in  -- 4.0
+    let sqrt_x = cond (le plus_zero z) (half ⊗ mul_add mu z sqrt_discriminant) (two ⊗ mu ⊘ (sqrt_discriminant ⊖ mu ⊗ z)) in
+    sqrt_x ⊗ sqrt_x
 
 -- `inverse_gaussian_quantile_initial_guess`, from the probability of the lower tail
-unfoldable pub inverseGaussianQuantileInitialGuess : Float → Float → Float
-inverseGaussianQuantileInitialGuess probability mu = inverseGaussianQuantileInitialGuessFromZ (inverseNormCdf probability) mu
+unfoldable pub inverse_gaussian_quantile_initial_guess : Float → Float → Float
+inverse_gaussian_quantile_initial_guess probability mu = inverse_gaussian_quantile_initial_guess_from_z (inverse_norm_cdf probability) mu
 
 -- where a search starts: the guess, or mu where the guess is not finite and positive
-unfoldable pub startingPoint : Float → Float → Float
-startingPoint guess mu = cond (finitePositive guess) guess mu
+unfoldable pub starting_point : Float → Float → Float
+starting_point guess mu = cond (finite_positive guess) guess mu
 
 -- `inverse_gaussian_cdf`: the probability of the lower tail
-unfoldable pub inverseGaussianCdf : Float → Float → Float
-inverseGaussianCdf x mu =
-    let sqrtX = sqrt x in
-    let invSqrtX = recip sqrtX in
-    let leading = sqrtX ⊘ mu in
-    let a = leading ⊖ invSqrtX in
-    let reflected = leading ⊕ invSqrtX in
-    normCdf a ⊕ half ⊗ exp (neg half ⊗ a ⊗ a) ⊗ erfcxCody (reflected ⊗ frac1Sqrt2)
+unfoldable pub inverse_gaussian_cdf : Float → Float → Float
+inverse_gaussian_cdf x mu =
+    let sqrt_x = sqrt x in
+    let inv_sqrt_x = recip sqrt_x in
+    let leading = sqrt_x ⊘ mu in
+    let a = leading ⊖ inv_sqrt_x in
+    let reflected = leading ⊕ inv_sqrt_x in
+    norm_cdf a ⊕ half ⊗ exp (neg half ⊗ a ⊗ a) ⊗ erfcx_cody (reflected ⊗ frac1_sqrt2)
 
 -- `inverse_gaussian_pdf`: the density
-unfoldable pub inverseGaussianPdf : Float → Float → Float
-inverseGaussianPdf x mu =
-    let sqrtX = sqrt x in
-    let a = sqrtX ⊘ mu ⊖ recip sqrtX in
-    normPdf (a ⊗ a) ⊘ (x ⊗ sqrtX)
+unfoldable pub inverse_gaussian_pdf : Float → Float → Float
+inverse_gaussian_pdf x mu =
+    let sqrt_x = sqrt x in
+    let a = sqrt_x ⊘ mu ⊖ recip sqrt_x in
+    norm_pdf (a ⊗ a) ⊘ (x ⊗ sqrt_x)

@@ -1,10 +1,10 @@
 // The bracket of a root, how it is found from a starting point, and how it is narrowed.
 ghost use Rattle.std.specs.Prelude.{◌≡◌, true};
-ghost use Rattle.inverse_gaussian.specs.Counted.{limited, someOf};
-ghost use Rattle.inverse_gaussian.specs.Internal.Searches.{viewReach, viewWidening};
-ghost use Rattle.inverse_gaussian.specs.Curves.{finitePositive};
-ghost use Rattle.inverse_gaussian.specs.Bracket.{doubled, doubledFrom, widened, bracketQuantileFromBelow, halved, lowered, bracketQuantileFromAbove};
-ghost use Rattle.inverse_gaussian.specs.Bracket.{bracketMidpoint, bracketIsTight, narrowed, inside, chosen};
+ghost use Rattle.inverse_gaussian.specs.Counted.{limited, some_of};
+ghost use Rattle.inverse_gaussian.specs.Internal.Searches.{view_reach, view_widening};
+ghost use Rattle.inverse_gaussian.specs.Curves.{finite_positive};
+ghost use Rattle.inverse_gaussian.specs.Bracket.{doubled, doubled_from, widened, bracket_quantile_from_below, halved, lowered, bracket_quantile_from_above};
+ghost use Rattle.inverse_gaussian.specs.Bracket.{bracket_midpoint, bracket_is_tight, narrowed, inside, chosen};
 
 use crate::counted::Reach;
 use crate::curves::{Allowance, Evaluation, inverse_gaussian_cdf};
@@ -41,7 +41,7 @@ fn doubled(x: f64) -> f64
 impl Bracket {
     // The bracket from x to its double.
     pub fn doubled_from(x: f64) -> Bracket
-        ensures { result ≡ doubledFrom x }
+        ensures { result ≡ doubled_from x }
     {
         Bracket {
             lower: x,
@@ -52,7 +52,7 @@ impl Bracket {
     // The bracket is found where `cdf`, the distribution at its upper bound, reaches the probability, or no finite
     // value is above that bound.
     pub fn widened(self, cdf: f64, probability: f64) -> Widening
-        ensures { viewWidening result ≡ widened probability self cdf }
+        ensures { view_widening result ≡ widened probability self cdf }
     {
         if cdf >= probability {
             return Widening::Reached(self);
@@ -66,7 +66,7 @@ impl Bracket {
     // The bracket from half of x; where that half is at most the smallest normal value from 0, which needs no
     // evaluation.
     pub fn halved(x: f64, upper: f64) -> Widening
-        ensures { viewWidening result ≡ halved x upper }
+        ensures { view_widening result ≡ halved x upper }
     {
         let next = x * 0.5;
         if next <= MIN_POSITIVE {
@@ -83,7 +83,7 @@ impl Bracket {
 
     // The bracket is found where `cdf`, the distribution at its lower bound, is at most the probability.
     pub fn lowered(self, cdf: f64, probability: f64) -> Widening
-        ensures { viewWidening result ≡ lowered probability self cdf }
+        ensures { view_widening result ≡ lowered probability self cdf }
     {
         if cdf <= probability {
             return Widening::Reached(self);
@@ -142,8 +142,8 @@ pub(crate) fn bracket_quantile_from_below(
     probability: f64,
     allowed: Allowance,
 ) -> Reach
-    requires { finitePositive initial ≡ true }
-    ensures { viewReach result ≡ limited allowed.left (someOf (bracketQuantileFromBelow initial mu probability)) }
+    requires { finite_positive initial ≡ true }
+    ensures { view_reach result ≡ limited allowed.left (some_of (bracket_quantile_from_below initial mu probability)) }
 {
     let mut bracket = Bracket::doubled_from(initial);
     let mut left = allowed;
@@ -174,8 +174,8 @@ pub(crate) fn bracket_quantile_from_above(
     probability: f64,
     allowed: Allowance,
 ) -> Reach
-    requires { finitePositive initial ≡ true }
-    ensures { viewReach result ≡ limited allowed.left (someOf (bracketQuantileFromAbove initial mu probability)) }
+    requires { finite_positive initial ≡ true }
+    ensures { view_reach result ≡ limited allowed.left (some_of (bracket_quantile_from_above initial mu probability)) }
 {
     let mut trial = Bracket::halved(initial, initial);
     let mut left = allowed;
@@ -201,7 +201,7 @@ pub(crate) fn bracket_quantile_from_above(
 
 // The geometric mean, or half of the upper bound where the lower is 0.
 pub fn bracket_midpoint(bracket: Bracket) -> f64
-    ensures { result ≡ bracketMidpoint bracket }
+    ensures { result ≡ bracket_midpoint bracket }
 {
     if bracket.lower <= 0.0 {
         return 0.5 * bracket.upper;
@@ -210,7 +210,7 @@ pub fn bracket_midpoint(bracket: Bracket) -> f64
 }
 
 pub fn bracket_is_tight(bracket: Bracket) -> bool
-    ensures { result ≡ bracketIsTight bracket }
+    ensures { result ≡ bracket_is_tight bracket }
 {
     if bracket.lower <= 0.0 {
         return bracket.upper <= MIN_POSITIVE;

@@ -3,8 +3,8 @@
 ghost use Rattle.std.specs.Prelude.{◌≡◌, ◌-◌, ◌<◌};
 ghost use Rattle.inverse_gaussian.specs.Counted.{limited};
 ghost use Rattle.inverse_gaussian.specs.Internal.Contracts.{evaluated};
-ghost use Rattle.inverse_gaussian.specs.Internal.Searches.{pdfFrom, pdfByExponential, viewEvaluation, viewSurvivalEvaluation};
-ghost use Rattle.inverse_gaussian.specs.Curves.{inverseGaussianSurvival, inverseGaussianCdf};
+ghost use Rattle.inverse_gaussian.specs.Internal.Searches.{pdf_from, pdf_by_exponential, view_evaluation, view_survival_evaluation};
+ghost use Rattle.inverse_gaussian.specs.Curves.{inverse_gaussian_survival, inverse_gaussian_cdf};
 
 use arithmetic::basic::recip;
 use arithmetic::constants::FRAC_1_SQRT_2;
@@ -72,7 +72,7 @@ pub enum SurvivalEvaluation {
 }
 
 pub fn inverse_gaussian_survival(x: f64, mu: f64, allowed: Allowance) -> SurvivalEvaluation
-    ensures { viewSurvivalEvaluation x result ≡ limited allowed.left (evaluated inverseGaussianSurvival x mu) }
+    ensures { view_survival_evaluation x result ≡ limited allowed.left (evaluated inverse_gaussian_survival x mu) }
 {
     if allowed.left == 0 {
         return SurvivalEvaluation::Spent;
@@ -92,7 +92,7 @@ pub fn inverse_gaussian_survival(x: f64, mu: f64, allowed: Allowance) -> Surviva
 }
 
 pub fn inverse_gaussian_cdf(x: f64, mu: f64, allowed: Allowance) -> Evaluation
-    ensures { viewEvaluation x result ≡ limited allowed.left (evaluated inverseGaussianCdf x mu) }
+    ensures { view_evaluation x result ≡ limited allowed.left (evaluated inverse_gaussian_cdf x mu) }
 {
     if allowed.left == 0 {
         return Evaluation::Spent;
@@ -115,14 +115,14 @@ pub fn inverse_gaussian_cdf(x: f64, mu: f64, allowed: Allowance) -> Evaluation
 
 // The density at x, where a is √x / mu - 1 / √x.
 pub fn inverse_gaussian_pdf(x: f64, sqrt_x: f64, a: f64) -> f64
-    ensures { result ≡ pdfFrom x sqrt_x a }
+    ensures { result ≡ pdf_from x sqrt_x a }
 {
     norm_pdf(a * a) / (x * sqrt_x)
 }
 
 // The density at x where also exp(-0.5 * a * a) is at hand.
 pub fn pdf_by_exponential(x: f64, sqrt_x: f64, a: f64, exponential: f64) -> f64
-    ensures { result ≡ pdfByExponential x sqrt_x a exponential }
+    ensures { result ≡ pdf_by_exponential x sqrt_x a exponential }
 {
     norm_pdf_of_square(a, exponential) / (x * sqrt_x)
 }

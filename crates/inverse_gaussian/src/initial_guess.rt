@@ -1,7 +1,7 @@
 // The points where the searches start.
 ghost use Rattle.std.specs.Prelude.{◌≡◌};
-ghost use Rattle.inverse_gaussian.specs.Curves.{inverseGaussianQuantileInitialGuess, inverseGaussianQuantileInitialGuessFromZ};
-ghost use Rattle.inverse_gaussian.specs.Curves.{finitePositive, startingPoint};
+ghost use Rattle.inverse_gaussian.specs.Curves.{inverse_gaussian_quantile_initial_guess, inverse_gaussian_quantile_initial_guess_from_z};
+ghost use Rattle.inverse_gaussian.specs.Curves.{finite_positive, starting_point};
 
 use arithmetic::constants::MAX;
 use arithmetic::mul_add::mul_add;
@@ -10,20 +10,20 @@ use special_function::normal_distribution::inverse_norm_cdf;
 
 // Whether x is finite and above 0.
 pub fn is_finite_positive(x: f64) -> bool
-    ensures { result ≡ finitePositive x }
+    ensures { result ≡ finite_positive x }
 {
     if x > 0.0 { x <= MAX } else { false }
 }
 
 pub fn inverse_gaussian_quantile_initial_guess(probability: f64, mu: f64) -> f64
-    ensures { result ≡ inverseGaussianQuantileInitialGuess probability mu }
+    ensures { result ≡ inverse_gaussian_quantile_initial_guess probability mu }
 {
     let z = inverse_norm_cdf(probability);
     inverse_gaussian_quantile_initial_guess_from_z(z, mu)
 }
 
 pub fn inverse_gaussian_quantile_initial_guess_from_z(z: f64, mu: f64) -> f64
-    ensures { result ≡ inverseGaussianQuantileInitialGuessFromZ z mu }
+    ensures { result ≡ inverse_gaussian_quantile_initial_guess_from_z z mu }
 {
     let sqrt_discriminant = sqrt(mul_add(mu, mu * z * z, 4.0 * mu));
     if z >= 0.0 {
@@ -36,7 +36,7 @@ pub fn inverse_gaussian_quantile_initial_guess_from_z(z: f64, mu: f64) -> f64
 
 // The guess, or mu where that is not finite and above 0.
 pub fn starting_point(guess: f64, mu: f64) -> f64
-    ensures { result ≡ startingPoint guess mu }
+    ensures { result ≡ starting_point guess mu }
 {
     if is_finite_positive(guess) { guess } else { mu }
 }

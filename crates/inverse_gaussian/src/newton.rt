@@ -1,9 +1,9 @@
 // The quantile by Newton steps on the standardised variable x / mu.
 ghost use Rattle.std.specs.Prelude.{◌≡◌};
 ghost use Rattle.inverse_gaussian.specs.Counted.{limited, have};
-ghost use Rattle.inverse_gaussian.specs.Internal.Searches.{viewNewton, viewStepped, viewQuantile};
-ghost use Rattle.inverse_gaussian.specs.Newton.{seed, initialX, numerator, nrstep, converged, afterMove, first, later, last, steps};
-ghost use Rattle.inverse_gaussian.specs.Newton.{inverseGaussianModeStandardized, inverseGaussianQuantileActuar};
+ghost use Rattle.inverse_gaussian.specs.Internal.Searches.{view_newton, view_stepped, view_quantile};
+ghost use Rattle.inverse_gaussian.specs.Newton.{seed, initial_x, numerator, nrstep, converged, after_move, first, later, last, steps};
+ghost use Rattle.inverse_gaussian.specs.Newton.{inverse_gaussian_mode_standardized, inverse_gaussian_quantile_actuar};
 
 use crate::counted::Quantile;
 use crate::curves::{Allowance, Evaluation, inverse_gaussian_cdf, pdf_by_exponential};
@@ -60,7 +60,7 @@ fn seed(probability: f64, log_probability: f64, mu: f64) -> f64
 // Where the steps start: the seed; where that is not finite and above 0 the mode, or the smallest normal value
 // if that is larger.
 fn initial_x(probability: f64, log_probability: f64, mu: f64) -> f64
-    ensures { result ≡ initialX probability log_probability mu }
+    ensures { result ≡ initial_x probability log_probability mu }
 {
     let x = seed(probability, log_probability, mu);
     if is_finite_positive(x) {
@@ -78,7 +78,7 @@ fn is_converged(dx: f64, x: f64) -> bool
 
 // x is the point after the move dx: no root where it is not finite and above 0, the root where the move was small.
 fn after_move(x: f64, dx: f64, direction: f64, mu: f64) -> Stepped
-    ensures { viewStepped result ≡ afterMove mu x dx direction }
+    ensures { view_stepped result ≡ after_move mu x dx direction }
 {
     if is_finite_positive(x) {
         if is_converged(dx, x) {
@@ -92,7 +92,7 @@ fn after_move(x: f64, dx: f64, direction: f64, mu: f64) -> Stepped
 impl Newton {
     // The first step, made at x, whose sign the later ones keep.
     pub fn first(self, x: f64, mu: f64) -> Stepped
-        ensures { viewStepped result ≡ first mu x (viewNewton self) }
+        ensures { view_stepped result ≡ first mu x (view_newton self) }
     {
         match self {
             Newton::Move(dx) => after_move(x + dx, dx, signum(dx), mu),
@@ -102,7 +102,7 @@ impl Newton {
 
     // A later step, made at x: one against the direction of the first is not taken, and x is the root.
     pub fn later(self, x: f64, direction: f64, mu: f64) -> Stepped
-        ensures { viewStepped result ≡ later mu x direction (viewNewton self) }
+        ensures { view_stepped result ≡ later mu x direction (view_newton self) }
     {
         match self {
             Newton::Move(dx) => {
@@ -119,7 +119,7 @@ impl Newton {
 impl Stepped {
     // After the last step that may be made its point is the root.
     pub fn last(self, mu: f64, left: Allowance) -> Quantile
-        ensures { viewQuantile result ≡ have (last mu (viewStepped self)) left.left }
+        ensures { view_quantile result ≡ have (last mu (view_stepped self)) left.left }
     {
         match self {
             Stepped::Root(root) => Quantile::Root(root, left),
@@ -137,7 +137,7 @@ fn steps(
     mu: f64,
     allowed: Allowance,
 ) -> Quantile
-    ensures { viewQuantile result ≡ limited allowed.left (steps probability log_probability mu (viewStepped begin)) }
+    ensures { view_quantile result ≡ limited allowed.left (steps probability log_probability mu (view_stepped begin)) }
 {
     let mut left = allowed;
     let mut next = begin;
@@ -168,7 +168,7 @@ fn steps(
 }
 
 pub fn inverse_gaussian_quantile_actuar(probability: f64, mu: f64, allowed: Allowance) -> Quantile
-    ensures { viewQuantile result ≡ limited allowed.left (inverseGaussianQuantileActuar probability mu) }
+    ensures { view_quantile result ≡ limited allowed.left (inverse_gaussian_quantile_actuar probability mu) }
 {
     let log_probability = ln(probability);
     let x = initial_x(probability, log_probability, mu);
@@ -190,7 +190,7 @@ pub fn inverse_gaussian_quantile_actuar(probability: f64, mu: f64, allowed: Allo
 }
 
 pub fn inverse_gaussian_mode_standardized(phi: f64) -> f64
-    ensures { result ≡ inverseGaussianModeStandardized phi }
+    ensures { result ≡ inverse_gaussian_mode_standardized phi }
 {
     let kappa = 1.5 * phi;
     if kappa <= LARGE_KAPPA_THRESHOLD {
@@ -218,7 +218,7 @@ fn numerator(cdf: f64, probability: f64, log_probability: f64) -> f64
 
 // The step that would bring `error` to 0 where the density is `pdf`.
 pub fn nrstep(pdf: f64, error: f64) -> Newton
-    ensures { viewNewton result ≡ nrstep pdf error }
+    ensures { view_newton result ≡ nrstep pdf error }
 {
     if is_finite_positive(pdf) {
         return Newton::Move(error / pdf);

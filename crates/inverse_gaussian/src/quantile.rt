@@ -1,10 +1,10 @@
 // The quantile of a probability: Newton steps, and where they give none a search in a bracket.
 ghost use Rattle.std.specs.Prelude.{◌≡◌, true};
-ghost use Rattle.inverse_gaussian.specs.Counted.{limited, mapped, someOf};
-ghost use Rattle.inverse_gaussian.specs.Curves.{finitePositive};
-ghost use Rattle.inverse_gaussian.specs.Internal.Searches.{viewReach, viewQuantile, viewNewton, viewIteration};
-ghost use Rattle.inverse_gaussian.specs.Quantile.{bracketAt, floor, raised, clamped, continueAt, moved, iteration, iterations};
-ghost use Rattle.inverse_gaussian.specs.Quantile.{solvable, filtered, inverseGaussianQuantile, inverseGaussianQuantileBracketed};
+ghost use Rattle.inverse_gaussian.specs.Counted.{limited, mapped, some_of};
+ghost use Rattle.inverse_gaussian.specs.Curves.{finite_positive};
+ghost use Rattle.inverse_gaussian.specs.Internal.Searches.{view_reach, view_quantile, view_newton, view_iteration};
+ghost use Rattle.inverse_gaussian.specs.Quantile.{bracket_at, floor, raised, clamped, continue_at, moved, iteration, iterations};
+ghost use Rattle.inverse_gaussian.specs.Quantile.{solvable, filtered, inverse_gaussian_quantile, inverse_gaussian_quantile_bracketed};
 
 use crate::bracket::{
     Bracket, QUANTILE_BRACKET_TOLERANCE, bracket_is_tight, bracket_midpoint,
@@ -44,7 +44,7 @@ pub fn is_solvable(probability: f64, mu: f64) -> bool
 impl Quantile {
     // A root that is not finite and above 0 is none.
     pub fn filtered(self) -> Quantile
-        ensures { viewQuantile result ≡ mapped filtered (viewQuantile self) }
+        ensures { view_quantile result ≡ mapped filtered (view_quantile self) }
     {
         match self {
             Quantile::Root(root, left) => {
@@ -60,7 +60,7 @@ impl Quantile {
 }
 
 pub fn inverse_gaussian_quantile(probability: f64, mu: f64, allowed: Allowance) -> Quantile
-    ensures { viewQuantile result ≡ limited allowed.left (inverseGaussianQuantile probability mu) }
+    ensures { view_quantile result ≡ limited allowed.left (inverse_gaussian_quantile probability mu) }
 {
     if !is_solvable(probability, mu) {
         return Quantile::None(allowed);
@@ -74,8 +74,8 @@ pub fn inverse_gaussian_quantile(probability: f64, mu: f64, allowed: Allowance) 
 
 // Upwards from x where the distribution there is below the probability, and else downwards.
 fn bracket_at(x: f64, cdf: f64, mu: f64, probability: f64, allowed: Allowance) -> Reach
-    requires { finitePositive x ≡ true }
-    ensures { viewReach result ≡ limited allowed.left (someOf (bracketAt x cdf mu probability)) }
+    requires { finite_positive x ≡ true }
+    ensures { view_reach result ≡ limited allowed.left (some_of (bracket_at x cdf mu probability)) }
 {
     if cdf < probability {
         bracket_quantile_from_below(x, mu, probability, allowed)
@@ -117,7 +117,7 @@ impl Bracket {
 
     // Another iteration at `next`, unless that is x again: then nothing would change, and the midpoint is the root.
     fn continue_at(self, x: f64, next: f64) -> Iteration
-        ensures { viewIteration result ≡ continueAt self x next }
+        ensures { view_iteration result ≡ continue_at self x next }
     {
         if next == x {
             return Iteration::Root(bracket_midpoint(self));
@@ -128,7 +128,7 @@ impl Bracket {
     // A step within the tolerance, relative to x or to 1 if that is larger, leads to the root; any other to another
     // iteration.
     fn moved(self, x: f64, step: Newton) -> Iteration
-        ensures { viewIteration result ≡ moved self x (viewNewton step) }
+        ensures { view_iteration result ≡ moved self x (view_newton step) }
     {
         match step {
             Newton::Move(dx) => {
@@ -144,7 +144,7 @@ impl Bracket {
 
     // One iteration, at x, where the distribution is `cdf` and the density `pdf`.
     pub fn iteration(self, x: f64, cdf: f64, pdf: f64, probability: f64) -> Iteration
-        ensures { viewIteration result ≡ iteration pdf probability (self, x) cdf }
+        ensures { view_iteration result ≡ iteration pdf probability (self, x) cdf }
     {
         let error = cdf - probability;
         if error == 0.0 {
@@ -160,7 +160,7 @@ impl Bracket {
 
 // At most 64 iterations, after which the midpoint is the root.
 fn iterations(start: Bracket, guess: f64, mu: f64, probability: f64, allowed: Allowance) -> Quantile
-    ensures { viewQuantile result ≡ limited allowed.left (someOf (iterations mu probability start guess)) }
+    ensures { view_quantile result ≡ limited allowed.left (some_of (iterations mu probability start guess)) }
 {
     let mut bracket = start;
     let mut x = guess;
@@ -196,8 +196,8 @@ pub(crate) fn inverse_gaussian_quantile_bracketed(
     mu: f64,
     allowed: Allowance,
 ) -> Quantile
-    requires { finitePositive mu ≡ true }
-    ensures { viewQuantile result ≡ limited allowed.left (someOf (inverseGaussianQuantileBracketed probability mu)) }
+    requires { finite_positive mu ≡ true }
+    ensures { view_quantile result ≡ limited allowed.left (some_of (inverse_gaussian_quantile_bracketed probability mu)) }
 {
     let x = starting_point(inverse_gaussian_quantile_initial_guess(probability, mu), mu);
     let Evaluation::Value {

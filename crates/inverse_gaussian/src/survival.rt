@@ -1,12 +1,12 @@
 // The quantile of a survival probability, which 1 - probability could not tell from 1 where it is small.
 ghost use Rattle.std.specs.Prelude.{◌≡◌, true};
-ghost use Rattle.inverse_gaussian.specs.Counted.{limited, someOf};
-ghost use Rattle.inverse_gaussian.specs.Curves.{finitePositive};
-ghost use Rattle.inverse_gaussian.specs.Internal.Searches.{viewReach, viewQuantile, viewNewton, viewIteration, viewWidening, viewDoubling};
-ghost use Rattle.inverse_gaussian.specs.Survival.{cappedFrom, survivalWidened, survivalFromBelow};
-ghost use Rattle.inverse_gaussian.specs.Survival.{survivalLowered, survivalFromAbove, survivalBracketAt};
-ghost use Rattle.inverse_gaussian.specs.Survival.{far, survivalStep, survivalNewton, survivalMoved, survivalIteration, survivalIterations};
-ghost use Rattle.inverse_gaussian.specs.Survival.{inverseGaussianQuantileFromSurvival};
+ghost use Rattle.inverse_gaussian.specs.Counted.{limited, some_of};
+ghost use Rattle.inverse_gaussian.specs.Curves.{finite_positive};
+ghost use Rattle.inverse_gaussian.specs.Internal.Searches.{view_reach, view_quantile, view_newton, view_iteration, view_widening, view_doubling};
+ghost use Rattle.inverse_gaussian.specs.Survival.{capped_from, survival_widened, survival_from_below};
+ghost use Rattle.inverse_gaussian.specs.Survival.{survival_lowered, survival_from_above, survival_bracket_at};
+ghost use Rattle.inverse_gaussian.specs.Survival.{far, survival_step, survival_newton, survival_moved, survival_iteration, survival_iterations};
+ghost use Rattle.inverse_gaussian.specs.Survival.{inverse_gaussian_quantile_from_survival};
 
 use crate::bracket::{
     Bracket, QUANTILE_BRACKET_TOLERANCE, Widening, bracket_is_tight, bracket_midpoint,
@@ -37,7 +37,7 @@ pub enum Doubling {
 impl Bracket {
     // The bracket from x to its double, or to the largest finite value if that is smaller.
     pub fn capped_from(x: f64) -> Bracket
-        ensures { result ≡ cappedFrom x }
+        ensures { result ≡ capped_from x }
     {
         Bracket {
             lower: x,
@@ -47,7 +47,7 @@ impl Bracket {
 
     // The bracket is found where `survival`, which is that at its upper bound, is at most the probability.
     pub fn survival_widened(self, survival: f64, probability: f64) -> Doubling
-        ensures { viewDoubling result ≡ survivalWidened probability self survival }
+        ensures { view_doubling result ≡ survival_widened probability self survival }
     {
         if survival <= probability {
             return Doubling::Reached(self);
@@ -60,7 +60,7 @@ impl Bracket {
 
     // The bracket is found where `survival`, which is that at its lower bound, reaches the probability.
     pub fn survival_lowered(self, survival: f64, probability: f64) -> Widening
-        ensures { viewWidening result ≡ survivalLowered probability self survival }
+        ensures { view_widening result ≡ survival_lowered probability self survival }
     {
         if survival >= probability {
             return Widening::Reached(self);
@@ -71,7 +71,7 @@ impl Bracket {
     // A step within the tolerance, relative to x, leads to the root; any other to another iteration. The survival
     // decreases, so that the step is added.
     fn survival_moved(self, x: f64, step: Newton) -> Iteration
-        ensures { viewIteration result ≡ survivalMoved self x (viewNewton step) }
+        ensures { view_iteration result ≡ survival_moved self x (view_newton step) }
     {
         match step {
             Newton::Move(dx) => {
@@ -87,7 +87,7 @@ impl Bracket {
 
     // One iteration, at x, where the survival is `survival` and the density `pdf`.
     pub fn survival_iteration(self, x: f64, survival: f64, pdf: f64, probability: f64) -> Iteration
-        ensures { viewIteration result ≡ survivalIteration pdf probability (self, x) survival }
+        ensures { view_iteration result ≡ survival_iteration pdf probability (self, x) survival }
     {
         let error = survival - probability;
         if error == 0.0 {
@@ -103,8 +103,8 @@ impl Bracket {
 
 // Doubles from `initial`, where the survival is above the probability, until it no longer is.
 fn from_below(initial: f64, mu: f64, probability: f64, allowed: Allowance) -> Reach
-    requires { finitePositive initial ≡ true }
-    ensures { viewReach result ≡ limited allowed.left (survivalFromBelow initial mu probability) }
+    requires { finite_positive initial ≡ true }
+    ensures { view_reach result ≡ limited allowed.left (survival_from_below initial mu probability) }
 {
     let mut bracket = Bracket::capped_from(initial);
     let mut left = allowed;
@@ -130,8 +130,8 @@ fn from_below(initial: f64, mu: f64, probability: f64, allowed: Allowance) -> Re
 
 // Halves from `initial`, where the survival is not above the probability, until it is not below.
 fn from_above(initial: f64, mu: f64, probability: f64, allowed: Allowance) -> Reach
-    requires { finitePositive initial ≡ true }
-    ensures { viewReach result ≡ limited allowed.left (someOf (survivalFromAbove initial mu probability)) }
+    requires { finite_positive initial ≡ true }
+    ensures { view_reach result ≡ limited allowed.left (some_of (survival_from_above initial mu probability)) }
 {
     let mut trial = Bracket::halved(initial, initial);
     let mut left = allowed;
@@ -162,8 +162,8 @@ fn survival_bracket_at(
     probability: f64,
     allowed: Allowance,
 ) -> Reach
-    requires { finitePositive x ≡ true }
-    ensures { viewReach result ≡ limited allowed.left (survivalBracketAt x survival mu probability) }
+    requires { finite_positive x ≡ true }
+    ensures { view_reach result ≡ limited allowed.left (survival_bracket_at x survival mu probability) }
 {
     if survival > probability {
         from_below(x, mu, probability, allowed)
@@ -185,7 +185,7 @@ fn is_far(survival: f64, probability: f64) -> bool
 
 // The step where the density is `pdf`: for the logarithm of the survival where that is far from the probability.
 fn survival_step(survival: f64, probability: f64, pdf: f64) -> f64
-    ensures { result ≡ survivalStep survival probability pdf }
+    ensures { result ≡ survival_step survival probability pdf }
 {
     if is_far(survival, probability) {
         return (ln(survival) - ln(probability)) * (survival / pdf);
@@ -194,7 +194,7 @@ fn survival_step(survival: f64, probability: f64, pdf: f64) -> f64
 }
 
 fn survival_newton(survival: f64, probability: f64, pdf: f64) -> Newton
-    ensures { viewNewton result ≡ survivalNewton survival probability pdf }
+    ensures { view_newton result ≡ survival_newton survival probability pdf }
 {
     if is_finite_positive(pdf) {
         return Newton::Move(survival_step(survival, probability, pdf));
@@ -210,7 +210,7 @@ fn survival_iterations(
     probability: f64,
     allowed: Allowance,
 ) -> Quantile
-    ensures { viewQuantile result ≡ limited allowed.left (someOf (survivalIterations mu probability start guess)) }
+    ensures { view_quantile result ≡ limited allowed.left (some_of (survival_iterations mu probability start guess)) }
 {
     let mut bracket = start;
     let mut x = guess;
@@ -245,7 +245,7 @@ pub fn inverse_gaussian_quantile_from_survival(
     mu: f64,
     allowed: Allowance,
 ) -> Quantile
-    ensures { viewQuantile result ≡ limited allowed.left (inverseGaussianQuantileFromSurvival probability mu) }
+    ensures { view_quantile result ≡ limited allowed.left (inverse_gaussian_quantile_from_survival probability mu) }
 {
     if !is_solvable(probability, mu) {
         return Quantile::None(allowed);

@@ -8,12 +8,12 @@ use native.Mathlib.Omega.{arith}
 use lib.Ieee.{Float}
 use lib.Seq.{take_all}
 use lib.ListN.{length, take, get_or, set, length-map, get_or-map}
-use Rattle.arithmetic.specs.Laws.Slices.{written, write-next, written-length, written_all}
-use Rattle.explicit_black.specs.Quote.{Reply, refusal, impliedBlackVolatilityInput}
-use Rattle.ladder.specs.Ladder.{total_of, volatilityOf, count_of, number_of, takesRoot, rootsAfter, replies, trues, rootPlaces, solvedLadder}
+use Rattle.arithmetic.specs.Laws.Slices.{written, write_next, written_length, written_all}
+use Rattle.explicit_black.specs.Quote.{Reply, refusal, implied_black_volatility_input}
+use Rattle.ladder.specs.Ladder.{total_of, volatility_of, count_of, number_of, takes_root, roots_after, replies, trues, root_places, solved_ladder}
 use Rattle.ladder.specs.declared.ladder.LadderReply.TheVariants.{Solved}
-use Rattle.ladder.specs.Replies.{viewLadder}
-use Rattle.ladder.specs.Laws.Places.{replies-length, root-places-length, reply-at, root-at, trues-next, trues-few, Lengths}
+use Rattle.ladder.specs.Replies.{view_ladder}
+use Rattle.ladder.specs.Laws.Places.{replies_length, root_places_length, reply_at_lem, root_at, trues_next, trues_few, Lengths}
 
 module _ (side : ℕ) (f t : Float) (ks ps : List Float) where
   abbrev all : List Reply
@@ -25,9 +25,9 @@ module _ (side : ℕ) (f t : Float) (ks ps : List Float) where
 
   pub record Sofar (t₀ v₀ : List Float) (c₀ r₀ : List ℕ) (i roots : ℕ) (ts vs : List Float) (cs rs : List ℕ) : Type 0 where
     pub within : i ≤ length ks
-    pub counted : roots ≡ trues (take i (rootPlaces side f t ks ps))
+    pub counted : roots ≡ trues (take i (root_places side f t ks ps))
     pub totals : Written total_of i t₀ ts
-    pub volatilities : Written volatilityOf i v₀ vs
+    pub volatilities : Written volatility_of i v₀ vs
     pub counts : Written count_of i c₀ cs
     pub refusals : Written number_of i r₀ rs
 
@@ -39,77 +39,77 @@ module _ (side : ℕ) (f t : Float) (ks ps : List Float) where
     -- a slice of as many places keeps its length, and in the end holds what g has of all replies
     module _ {A : Type 0} (g : Reply → A) (i : ℕ) (before now : List A) (h : length before ≡ length ks) (w : Written g i before now) where
       values_length : length (map g all) ≡ length before
-      values_length = length-map all g ∙ replies-length side f t ks ps e ∙ sym h
+      values_length = length-map all g ∙ replies_length side f t ks ps e ∙ sym h
 
       same_length : i ≤ length ks → length now ≡ length before
-      same_length l = ap length w ∙ written-length (map g all) before i (omega (arith, values_length)) (omega arith)
+      same_length l = ap length w ∙ written_length (map g all) before i (omega (arith, values_length)) (omega arith)
 
-      all-written : length ks ≤ i → now ≡ map g all
-      all-written l = w ∙ written_all i (map g all) before values_length (subst (λ (n : ℕ). n ≤ i) (sym h ∙ sym values_length) l)
+      all_written : length ks ≤ i → now ≡ map g all
+      all_written l = w ∙ written_all i (map g all) before values_length (subst (λ (n : ℕ). n ≤ i) (sym h ∙ sym values_length) l)
 
       -- the value of the next place's reply is written there
-      next-written : (a b : Float) (r : Reply) (v : A) → i < length ks
-          → r ≡ impliedBlackVolatilityInput side (get_or ps i b) f (get_or ks i a) t → v ≡ g r → Written g (i + 1) before (set now i v)
-      next-written a b r v l q u =
+      next_written : (a b : Float) (r : Reply) (v : A) → i < length ks
+          → r ≡ implied_black_volatility_input side (get_or ps i b) f (get_or ks i a) t → v ≡ g r → Written g (i + 1) before (set now i v)
+      next_written a b r v l q u =
           let value : get_or (map g all) i (g (refusal 0 0)) ≡ v =
-          get_or-map g all i (refusal 0 0) ∙ ap g (reply-at side f t ks ps e i l a b (refusal 0 0) ∙ sym q) ∙ sym u in
+          get_or-map g all i (refusal 0 0) ∙ ap g (reply_at_lem side f t ks ps e i l a b (refusal 0 0) ∙ sym q) ∙ sym u in
           rw (w, ← value)
-          (write-next (map g all) before i (g (refusal 0 0)) (subst (λ (n : ℕ). i < n) (sym h ∙ sym values_length) l)
+          (write_next (map g all) before i (g (refusal 0 0)) (subst (λ (n : ℕ). i < n) (sym h ∙ sym values_length) l)
           (subst (λ (n : ℕ). i < n) (sym h) l))
 
 module _ {side : ℕ} {f t : Float} {ks ps t₀ v₀ : List Float} {c₀ r₀ : List ℕ}
     (l : Lengths (length ks) (length ps) (length t₀) (length v₀) (length c₀) (length r₀))
     {i roots : ℕ} {ts vs : List Float} {cs rs : List ℕ} (s : Sofar side f t ks ps t₀ v₀ c₀ r₀ i roots ts vs cs rs) where
   abbrev e : length ps ≡ length ks
-  e = l.prices-equal
+  e = l.prices_equal
 
   -- fewer roots were taken than a ladder has places
   pub room : i < length ks → roots < 500
-  room h = let few = trues-few (rootPlaces side f t ks ps) i in let c = s.counted in let m = l.few in omega arith
+  room h = let few = trues_few (root_places side f t ks ps) i in let c = s.counted in let m = l.few in omega arith
 
   -- the four slices keep their lengths
-  pub totals-kept : length ts ≡ length t₀
-  totals-kept = same_length side f t ks ps e total_of i t₀ ts l.totals-equal s.totals s.within
+  pub totals_kept : length ts ≡ length t₀
+  totals_kept = same_length side f t ks ps e total_of i t₀ ts l.totals_equal s.totals s.within
 
-  pub volatilities-kept : length vs ≡ length v₀
-  volatilities-kept = same_length side f t ks ps e volatilityOf i v₀ vs l.volatilities-equal s.volatilities s.within
+  pub volatilities_kept : length vs ≡ length v₀
+  volatilities_kept = same_length side f t ks ps e volatility_of i v₀ vs l.volatilities_equal s.volatilities s.within
 
-  pub counts-kept : length cs ≡ length c₀
-  counts-kept = same_length side f t ks ps e count_of i c₀ cs l.counts-equal s.counts s.within
+  pub counts_kept : length cs ≡ length c₀
+  counts_kept = same_length side f t ks ps e count_of i c₀ cs l.counts_equal s.counts s.within
 
-  pub refusals-kept : length rs ≡ length r₀
-  refusals-kept = same_length side f t ks ps e number_of i r₀ rs l.refusals-equal s.refusals s.within
+  pub refusals_kept : length rs ≡ length r₀
+  refusals_kept = same_length side f t ks ps e number_of i r₀ rs l.refusals_equal s.refusals s.within
 
   -- the reply, which was found for equal figures, and the count after it
   pub one_more : {side' : ℕ} {f' t' : Float} → side' ≡ side → f' ≡ f → t' ≡ t
       → (a b : Float) (r : Reply) (n : ℕ) (v w : Float) (c d : ℕ) → i < length ks
-      → r ≡ impliedBlackVolatilityInput side' (get_or ps i b) f' (get_or ks i a) t'
-      → n ≡ rootsAfter (takesRoot side' (get_or ps i b) f' (get_or ks i a) t') roots
-      → (v ≡ total_of r) × (w ≡ volatilityOf r) × (c ≡ count_of r) × (d ≡ number_of r)
+      → r ≡ implied_black_volatility_input side' (get_or ps i b) f' (get_or ks i a) t'
+      → n ≡ roots_after (takes_root side' (get_or ps i b) f' (get_or ks i a) t') roots
+      → (v ≡ total_of r) × (w ≡ volatility_of r) × (c ≡ count_of r) × (d ≡ number_of r)
       → Sofar side f t ks ps t₀ v₀ c₀ r₀ (i + 1) n (set ts i v) (set vs i w) (set cs i c) (set rs i d)
   one_more x y z a b r n v w c d h p m u =
-      let q : r ≡ impliedBlackVolatilityInput side (get_or ps i b) f (get_or ks i a) t = p ∙ rw (x, y, z) in
+      let q : r ≡ implied_black_volatility_input side (get_or ps i b) f (get_or ks i a) t = p ∙ rw (x, y, z) in
       record {
         within = omega arith;
-        counted = m ∙ rw (x, y, z, s.counted, ← root-at side f t ks ps e i h a b false, add-one i) (sym (trues-next (rootPlaces side f t ks ps) i few));
-        totals = next-written side f t ks ps e total_of i t₀ ts l.totals-equal s.totals a b r v h q u.0;
-        volatilities = next-written side f t ks ps e volatilityOf i v₀ vs l.volatilities-equal s.volatilities a b r w h q u.1;
-        counts = next-written side f t ks ps e count_of i c₀ cs l.counts-equal s.counts a b r c h q u.2;
-        refusals = next-written side f t ks ps e number_of i r₀ rs l.refusals-equal s.refusals a b r d h q u.3;
+        counted = m ∙ rw (x, y, z, s.counted, ← root_at side f t ks ps e i h a b false, add-one i) (sym (trues_next (root_places side f t ks ps) i few));
+        totals = next_written side f t ks ps e total_of i t₀ ts l.totals_equal s.totals a b r v h q u.0;
+        volatilities = next_written side f t ks ps e volatility_of i v₀ vs l.volatilities_equal s.volatilities a b r w h q u.1;
+        counts = next_written side f t ks ps e count_of i c₀ cs l.counts_equal s.counts a b r c h q u.2;
+        refusals = next_written side f t ks ps e number_of i r₀ rs l.refusals_equal s.refusals a b r d h q u.3;
       }
     where
-      few : i < length (rootPlaces side f t ks ps)
-      few = rw (root-places-length side f t ks ps e) h
+      few : i < length (root_places side f t ks ps)
+      few = rw (root_places_length side f t ks ps e) h
 
-  pub all-places : {n : ℕ} → n ≡ roots → length ks ≤ i → viewLadder (Solved n) ts vs cs rs ≡ solvedLadder side f t ks ps
-  unfolding solvedLadder
-  all-places q h =
+  pub all_places : {n : ℕ} → n ≡ roots → length ks ≤ i → view_ladder (Solved n) ts vs cs rs ≡ solved_ladder side f t ks ps
+  unfolding solved_ladder
+  all_places q h =
       rw (
         q,
         s.counted,
-        take_all i (rootPlaces side f t ks ps) (rw (root-places-length side f t ks ps e) h),
-        all-written side f t ks ps e total_of i t₀ ts l.totals-equal s.totals h,
-        all-written side f t ks ps e volatilityOf i v₀ vs l.volatilities-equal s.volatilities h,
-        all-written side f t ks ps e count_of i c₀ cs l.counts-equal s.counts h,
-        all-written side f t ks ps e number_of i r₀ rs l.refusals-equal s.refusals h,
+        take_all i (root_places side f t ks ps) (rw (root_places_length side f t ks ps e) h),
+        all_written side f t ks ps e total_of i t₀ ts l.totals_equal s.totals h,
+        all_written side f t ks ps e volatility_of i v₀ vs l.volatilities_equal s.volatilities h,
+        all_written side f t ks ps e count_of i c₀ cs l.counts_equal s.counts h,
+        all_written side f t ks ps e number_of i r₀ rs l.refusals_equal s.refusals h,
       )

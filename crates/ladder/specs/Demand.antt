@@ -2,8 +2,8 @@
 -- compared.
 -- Definitions only.
 use Rattle.std.specs.Prelude.{ℕ, List, map, Float, length, get_or}
-use Rattle.arithmetic.specs.Operations.{bits, plusZero}
-use Rattle.ladder.specs.Ladder.{Ladder, lengthRefusal, ladder}
+use Rattle.arithmetic.specs.Operations.{bits, plus_zero}
+use Rattle.ladder.specs.Ladder.{Ladder, length_refusal, ladder}
 
 -- what the entry is given: side; forward, time, strikes and prices by their bits; and the four slices
 pub record Inputs : Type 0 where
@@ -17,23 +17,23 @@ pub record Inputs : Type 0 where
   pub counts : List ℕ
   pub refusals : List ℕ
 
-abbrev pub handedBack : Inputs → Ladder
-handedBack c =
+abbrev pub handed_back : Inputs → Ladder
+handed_back c =
     ladder c.side (bits c.forward) (bits c.time) (map bits c.strikes) (map bits c.prices) c.totals c.volatilities c.counts
     c.refusals
 
 -- the number of the refusal by its lengths, or 0
-abbrev pub refusalOf : Inputs → ℕ
-refusalOf c =
-    lengthRefusal (length c.strikes) (length c.prices) (length c.totals) (length c.volatilities) (length c.counts)
+abbrev pub refusal_of : Inputs → ℕ
+refusal_of c =
+    length_refusal (length c.strikes) (length c.prices) (length c.totals) (length c.volatilities) (length c.counts)
     (length c.refusals)
 
 -- the bits of a place's strike and price
-abbrev pub strikeAt : Inputs → ℕ → ℕ
-strikeAt c i = get_or c.strikes i 0
+abbrev pub strike_at : Inputs → ℕ → ℕ
+strike_at c i = get_or c.strikes i 0
 
-abbrev pub priceAt : Inputs → ℕ → ℕ
-priceAt c i = get_or c.prices i 0
+abbrev pub price_at : Inputs → ℕ → ℕ
+price_at c i = get_or c.prices i 0
 
 -- total volatility, refusal number and count, but not volatility, since the times may differ
 pub record Compared : Type 0 where
@@ -41,5 +41,5 @@ pub record Compared : Type 0 where
   pub number : ℕ
   pub count : ℕ
 
-abbrev pub comparedAt : Ladder → ℕ → Compared
-comparedAt l i = record { total = get_or l.totals i plusZero; number = get_or l.refusals i 0; count = get_or l.counts i 0 }
+abbrev pub compared_at : Ladder → ℕ → Compared
+compared_at l i = record { total = get_or l.totals i plus_zero; number = get_or l.refusals i 0; count = get_or l.counts i 0 }

@@ -4,10 +4,10 @@ use Rattle.ladder.specs.declared.ladder.LadderReply.{LadderReply as Handed}
 use Rattle.ladder.specs.declared.ladder.LadderReply.TheVariants.{Solved, Refusal}
 use Rattle.ladder.specs.Ladder.{LadderReply, solved, refused, Ladder}
 
-abbrev pub viewLadderReply : Handed → LadderReply
-viewLadderReply (Solved roots) = solved roots
-viewLadderReply (Refusal number count) = refused number count
+abbrev pub view_ladder_reply : Handed → LadderReply
+view_ladder_reply (Solved roots) = solved roots
+view_ladder_reply (Refusal number count) = refused number count
 
-abbrev pub viewLadder : Handed → List Float → List Float → List ℕ → List ℕ → Ladder
-viewLadder r totals volatilities counts refusals =
-    record { result = viewLadderReply r; totals = totals; volatilities = volatilities; counts = counts; refusals = refusals }
+abbrev pub view_ladder : Handed → List Float → List Float → List ℕ → List ℕ → Ladder
+view_ladder r totals volatilities counts refusals =
+    record { result = view_ladder_reply r; totals = totals; volatilities = volatilities; counts = counts; refusals = refusals }

@@ -1,7 +1,7 @@
 // The entry: lengths are tested, then each place's quote is solved and written.
 ghost use Rattle.std.specs.Prelude.{◌≡◌, length};
-ghost use Rattle.ladder.specs.Ladder.{lengthRefusal, solvedLadder, ladder};
-ghost use Rattle.ladder.specs.Replies.{viewLadder};
+ghost use Rattle.ladder.specs.Ladder.{length_refusal, solved_ladder, ladder};
+ghost use Rattle.ladder.specs.Replies.{view_ladder};
 
 use crate::place::{Place, Shared, solve_place};
 use crate::strike_root::StrikeRoots;
@@ -24,7 +24,7 @@ fn length_refusal(
     counts: usize,
     refusals: usize,
 ) -> u32
-    ensures { result ≡ lengthRefusal strikes prices totals volatilities counts refusals }
+    ensures { result ≡ length_refusal strikes prices totals volatilities counts refusals }
 {
     if prices != strikes {
         return 12;
@@ -57,10 +57,10 @@ fn solve_places(
     counts: &mut [u64],
     refusals: &mut [u32],
 ) -> LadderReply
-    requires { lengthRefusal (length strikes.now) (length prices.now) (length totals.old) (length volatilities.old) (length counts.old)
+    requires { length_refusal (length strikes.now) (length prices.now) (length totals.old) (length volatilities.old) (length counts.old)
         (length refusals.old) ≡ 0 }
-    ensures { viewLadder result totals.new volatilities.new counts.new refusals.new
-        ≡ solvedLadder side forward time strikes.now prices.now }
+    ensures { view_ladder result totals.new volatilities.new counts.new refusals.new
+        ≡ solved_ladder side forward time strikes.now prices.now }
 {
     let shared = Shared::of(side, forward, time);
     let mut roots = StrikeRoots::none();
@@ -94,7 +94,7 @@ pub fn implied_black_volatility_ladder(
     counts: &mut [u64],
     refusals: &mut [u32],
 ) -> LadderReply
-    ensures { viewLadder result totals.new volatilities.new counts.new refusals.new
+    ensures { view_ladder result totals.new volatilities.new counts.new refusals.new
         ≡ ladder side forward time strikes.now prices.now
         totals.old volatilities.old counts.old refusals.old }
 {

@@ -1,9 +1,9 @@
 // One place of a ladder: its quote solved with the roots of forward and time at hand.
 ghost use Rattle.std.specs.Prelude.{◌≡◌, ◌+◌, ◌<◌};
-ghost use Rattle.explicit_black.specs.Quote.{refusal, impliedBlackVolatilityInput};
-ghost use Rattle.explicit_black.specs.Replies.{viewReply};
-ghost use Rattle.ladder.specs.Ladder.{total_of, volatilityOf, count_of, number_of, takesRoot, rootsAfter};
-ghost use Rattle.ladder.specs.Internal.Place.{HasRoots, openReply};
+ghost use Rattle.explicit_black.specs.Quote.{refusal, implied_black_volatility_input};
+ghost use Rattle.explicit_black.specs.Replies.{view_reply};
+ghost use Rattle.ladder.specs.Ladder.{total_of, volatility_of, count_of, number_of, takes_root, roots_after};
+ghost use Rattle.ladder.specs.Internal.Place.{HasRoots, open_reply};
 
 use crate::strike_root::{StrikeRoots, strike_root};
 use arithmetic::sqrt::sqrt;
@@ -55,7 +55,7 @@ impl Shared {
 
 // A refusal before the strike's root: the count stays.
 fn refused(number: u32, before: StrikeRoots) -> PlaceReply
-    ensures { (viewReply result.reply ≡ refusal number 0) × (result.roots.taken ≡ before.taken) }
+    ensures { (view_reply result.reply ≡ refusal number 0) × (result.roots.taken ≡ before.taken) }
 {
     PlaceReply {
         reply: Reply::Refusal {
@@ -75,7 +75,7 @@ fn solve_open(
     before: StrikeRoots,
 ) -> PlaceReply
     requires { HasRoots shared × (before.taken < 500) }
-    ensures { (viewReply result.reply ≡ openReply shared.forward shared.time price intrinsic strike)
+    ensures { (view_reply result.reply ≡ open_reply shared.forward shared.time price intrinsic strike)
         × (result.roots.taken ≡ before.taken + 1) }
 {
     let taken = strike_root(strike, before);
@@ -98,8 +98,8 @@ fn solve_open(
 // Tests 1 to 6, and what follows where they leave the price below its bound at a time above zero: only there is the strike's root taken.
 pub(crate) fn solve_place(shared: Shared, price: f64, strike: f64, roots: StrikeRoots) -> PlaceReply
     requires { HasRoots shared × (roots.taken < 500) }
-    ensures { (viewReply result.reply ≡ impliedBlackVolatilityInput shared.side price shared.forward strike shared.time)
-        × (result.roots.taken ≡ rootsAfter (takesRoot shared.side price shared.forward strike shared.time) roots.taken) }
+    ensures { (view_reply result.reply ≡ implied_black_volatility_input shared.side price shared.forward strike shared.time)
+        × (result.roots.taken ≡ roots_after (takes_root shared.side price shared.forward strike shared.time) roots.taken) }
 {
     let side = shared.side;
     let forward = shared.forward;
@@ -126,8 +126,8 @@ pub(crate) fn solve_place(shared: Shared, price: f64, strike: f64, roots: Strike
 impl Place {
     // Of a refusal the figures are zeros; an answer has the number 0.
     pub(crate) fn of(reply: Reply) -> Place
-        ensures { (result.total ≡ total_of (viewReply reply)) × (result.volatility ≡ volatilityOf (viewReply reply))
-            × (result.count ≡ count_of (viewReply reply)) × (result.number ≡ number_of (viewReply reply)) }
+        ensures { (result.total ≡ total_of (view_reply reply)) × (result.volatility ≡ volatility_of (view_reply reply))
+            × (result.count ≡ count_of (view_reply reply)) × (result.number ≡ number_of (view_reply reply)) }
     {
         match reply {
             Reply::Answer {

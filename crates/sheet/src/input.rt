@@ -1,6 +1,6 @@
 // Standard input, to its end or as much of it as a buffer holds.
 ghost use Rattle.std.specs.Prelude.{◌≤◌, length};
-ghost use Rattle.xdr_sheet.specs.Sheet.{inputBytes};
+ghost use Rattle.xdr_sheet.specs.Sheet.{input_bytes};
 
 // How many bytes were read, or that a read failed.
 #[derive(Drop)]
@@ -22,7 +22,7 @@ fn read_some(part: &mut [u8]) -> Input
 
 // The buffer holds more than any sheet, so that what it cannot hold changes nothing.
 pub fn read_sheet(buffer: &mut [u8]) -> Input
-    requires { inputBytes ≤ length buffer.old }
+    requires { input_bytes ≤ length buffer.old }
     ensures { result.count ≤ length buffer.new }
 {
     let mut count: usize = 0;

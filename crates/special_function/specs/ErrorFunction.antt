@@ -1,8 +1,8 @@
 -- error_function.rs, but for erfinv: Cody's error functions. Definitions only.
 use Rattle.std.specs.Prelude.{List, [], ◌∷◌, cond, Float}
 use Rattle.std.specs.Float.Ieee.{neg, lt, le}
-use Rattle.arithmetic.specs.Operations.{◌⊕◌, ◌⊖◌, ◌⊗◌, ◌⊘◌, bits, plusZero, one, two, maxFinite}
-use Rattle.arithmetic.specs.Basic.{abs, signum, trunc, recip, mulAdd2Sel}
+use Rattle.arithmetic.specs.Operations.{◌⊕◌, ◌⊖◌, ◌⊗◌, ◌⊘◌, bits, plus_zero, one, two, max_finite}
+use Rattle.arithmetic.specs.Basic.{abs, signum, trunc, recip, mul_add2_sel}
 use Rattle.arithmetic.specs.Exp.{exp}
 use Rattle.special_function.specs.Polynomial.{evaluate, ◌at◌, part}
 
@@ -27,7 +27,7 @@ B =
     ∷ []
 
 unfoldable pub ab : Float → Float
-ab z = evaluate (mulAdd2Sel z (A at 4) (A at 0)) (part A 1 4) z ⊘ evaluate (mulAdd2Sel z one (B at 0)) (part B 1 4) z
+ab z = evaluate (mul_add2_sel z (A at 4) (A at 0)) (part A 1 4) z ⊘ evaluate (mul_add2_sel z one (B at 0)) (part B 1 4) z
 
 -- exp y² times erfc y, for y above that and up to 4
 abbrev pub C : List Float
@@ -88,12 +88,12 @@ abbrev tilde : Float → Float
 tilde y = trunc (y ⊗ bits 0x4030_0000_0000_0000) ⊗ bits 0x3FB0_0000_0000_0000
 
 -- exp of -y², as the product of two: of the square of that multiple, and of what it leaves
-unfoldable pub smoothenedExponentialOfNegativeSquare : Float → Float
-smoothenedExponentialOfNegativeSquare y = exp (neg (tilde y ⊗ tilde y)) ⊗ exp (neg (y ⊖ tilde y) ⊗ (y ⊕ tilde y))
+unfoldable pub smoothened_exponential_of_negative_square : Float → Float
+smoothened_exponential_of_negative_square y = exp (neg (tilde y ⊗ tilde y)) ⊗ exp (neg (y ⊖ tilde y) ⊗ (y ⊕ tilde y))
 
 -- exp of x², likewise
-unfoldable pub smoothenedExponentialOfPositiveSquare : Float → Float
-smoothenedExponentialOfPositiveSquare x = exp (tilde x ⊗ tilde x) ⊗ exp ((x ⊖ tilde x) ⊗ (x ⊕ tilde x))
+unfoldable pub smoothened_exponential_of_positive_square : Float → Float
+smoothened_exponential_of_positive_square x = exp (tilde x ⊗ tilde x) ⊗ exp ((x ⊖ tilde x) ⊗ (x ⊕ tilde x))
 
 -- ---- the error functions
 
@@ -107,42 +107,42 @@ xneg = bits 0xC03A_A0F4_D2E0_63B5  -- -26.6287357137514
 abbrev pub xbig : Float
 xbig = bits 0x403A_8B02_0C49_BA5E  -- 26.543
 
-abbrev pub oneOverSqrtPi : Float
-oneOverSqrtPi = bits 0x3FE2_0DD7_5042_9B6D  -- 0.5641895835477563
+abbrev pub one_over_sqrt_pi : Float
+one_over_sqrt_pi = bits 0x3FE2_0DD7_5042_9B6D  -- 0.5641895835477563
 
 -- where his second range ends
 abbrev pub four : Float
 four = bits 0x4010_0000_0000_0000
 
 -- exp y² times erfc y, for y above the threshold; the source has the same lines in erf_cody and erfc_cody
-unfoldable pub erfcxCodyAboveThreshold : Float → Float
-erfcxCodyAboveThreshold y = cond (le y four) (cd y) ((oneOverSqrtPi ⊖ pq (recip (y ⊗ y))) ⊘ y)
+unfoldable pub erfcx_cody_above_threshold : Float → Float
+erfcx_cody_above_threshold y = cond (le y four) (cd y) ((one_over_sqrt_pi ⊖ pq (recip (y ⊗ y))) ⊘ y)
 
 -- erf x; below 0 as -(1 - erfc |x|)
-unfoldable pub erfCody : Float → Float
-erfCody x =
+unfoldable pub erf_cody : Float → Float
+erf_cody x =
     let y = abs x in
     cond (le y threshold) (x ⊗ ab (y ⊗ y))
     (cond (le xbig y) (signum x)
-    (cond (lt x plusZero) (mulAdd2Sel (erfcxCodyAboveThreshold y) (smoothenedExponentialOfNegativeSquare y) (neg one))
-    (mulAdd2Sel (erfcxCodyAboveThreshold y) (neg (smoothenedExponentialOfNegativeSquare y)) one)))
+    (cond (lt x plus_zero) (mul_add2_sel (erfcx_cody_above_threshold y) (smoothened_exponential_of_negative_square y) (neg one))
+    (mul_add2_sel (erfcx_cody_above_threshold y) (neg (smoothened_exponential_of_negative_square y)) one)))
 
 -- erfc y, for y above the threshold
-unfoldable pub erfcAboveThreshold : Float → Float
-erfcAboveThreshold y = cond (le xbig y) plusZero (erfcxCodyAboveThreshold y ⊗ smoothenedExponentialOfNegativeSquare y)
+unfoldable pub erfc_above_threshold : Float → Float
+erfc_above_threshold y = cond (le xbig y) plus_zero (erfcx_cody_above_threshold y ⊗ smoothened_exponential_of_negative_square y)
 
 -- erfc x, which is 1 - erf x; below 0 as 2 - erfc |x|
-unfoldable pub erfcCody : Float → Float
-erfcCody x =
+unfoldable pub erfc_cody : Float → Float
+erfc_cody x =
     let y = abs x in
-    cond (le y threshold) (mulAdd2Sel (neg (ab (y ⊗ y))) x one)
-    (cond (lt x plusZero) (two ⊖ erfcAboveThreshold y) (erfcAboveThreshold y))
+    cond (le y threshold) (mul_add2_sel (neg (ab (y ⊗ y))) x one)
+    (cond (lt x plus_zero) (two ⊖ erfc_above_threshold y) (erfc_above_threshold y))
 
 -- exp x² times erfc x; below 0 as 2 exp x² less that of |x|
-unfoldable pub erfcxCody : Float → Float
-erfcxCody x =
+unfoldable pub erfcx_cody : Float → Float
+erfcx_cody x =
     let y = abs x in
-    cond (le y threshold) (exp (y ⊗ y) ⊗ mulAdd2Sel (neg (ab (y ⊗ y))) x one)
-    (cond (lt x xneg) maxFinite
-    (cond (lt x plusZero) (mulAdd2Sel (smoothenedExponentialOfPositiveSquare x) two (neg (erfcxCodyAboveThreshold y)))
-    (erfcxCodyAboveThreshold y)))
+    cond (le y threshold) (exp (y ⊗ y) ⊗ mul_add2_sel (neg (ab (y ⊗ y))) x one)
+    (cond (lt x xneg) max_finite
+    (cond (lt x plus_zero) (mul_add2_sel (smoothened_exponential_of_positive_square x) two (neg (erfcx_cody_above_threshold y)))
+    (erfcx_cody_above_threshold y)))

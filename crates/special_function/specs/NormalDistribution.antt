@@ -1,22 +1,22 @@
 -- normal_distribution.rs: density, cumulative probability and its inverse. Definitions only.
 use Rattle.std.specs.Prelude.{List, [], ◌∷◌, Bool, true, false, ◌&&◌, cond, ℕ, zero, suc, ◌^◌, Float}
 use Rattle.std.specs.Float.Ieee.{neg, lt, le}
-use Rattle.arithmetic.specs.Operations.{◌⊕◌, ◌⊖◌, ◌⊗◌, ◌⊘◌, bits, plusZero, half, one, maxFinite, epsilon, frac1Sqrt2}
-use Rattle.arithmetic.specs.Basic.{abs, mulAdd2Sel}
+use Rattle.arithmetic.specs.Operations.{◌⊕◌, ◌⊖◌, ◌⊗◌, ◌⊘◌, bits, plus_zero, half, one, max_finite, epsilon, frac1_sqrt2}
+use Rattle.arithmetic.specs.Basic.{abs, mul_add2_sel}
 use Rattle.arithmetic.specs.Sqrt.{sqrt}
 use Rattle.arithmetic.specs.Exp.{exp}
 use Rattle.arithmetic.specs.Ln.{ln}
 use Rattle.special_function.specs.Polynomial.{nested}
-use Rattle.special_function.specs.ErrorFunction.{erfcCody}
+use Rattle.special_function.specs.ErrorFunction.{erfc_cody}
 use Rattle.special_function.specs.declared.normal_distribution.Expansion.{Expansion}
 
 -- 1/√(2π): the source's file has this constant of its own beside FRAC_1_SQRT_2_PI of constants.rs, with the same bits
-abbrev pub fracSqrt2Pi : Float
-fracSqrt2Pi = bits 0x3FD9_8845_33D4_3650
+abbrev pub frac_sqrt2_pi : Float
+frac_sqrt2_pi = bits 0x3FD9_8845_33D4_3650
 
 -- the density at x, x2 being x²
-unfoldable pub normPdf : Float → Float
-normPdf x2 = fracSqrt2Pi ⊗ exp (neg half ⊗ x2)
+unfoldable pub norm_pdf : Float → Float
+norm_pdf x2 = frac_sqrt2_pi ⊗ exp (neg half ⊗ x2)
 
 -- ---- the asymptotic expansion of `norm_cdf`
 
@@ -30,49 +30,49 @@ next zsqr s =
     record { sum = s.sum ⊖ a; g = s.g ⊗ y; i = s.i ⊕ bits 0x4010_0000_0000_0000; a = abs a }
 
 -- whether the loop goes on after it: the term has fallen below the one before, and still counts in the sum
-unfoldable pub goesOn : Float → Expansion → Bool
-goesOn lasta s = lt s.a lasta && le (abs (s.sum ⊗ epsilon)) s.a
+unfoldable pub goes_on : Float → Expansion → Bool
+goes_on lasta s = lt s.a lasta && le (abs (s.sum ⊗ epsilon)) s.a
 
 -- the sum where the loop stops, after at most so many more iterations; `on` says whether it goes on from s
-unfoldable pub sumFrom : ℕ → Bool → Float → Expansion → Float
-unfolding next goesOn
-sumFrom zero on zsqr s = s.sum
-sumFrom (suc more) false zsqr s = s.sum
-sumFrom (suc more) true zsqr s = sumFrom more (goesOn s.a (next zsqr s)) zsqr (next zsqr s)
+unfoldable pub sum_from : ℕ → Bool → Float → Expansion → Float
+unfolding next goes_on
+sum_from zero on zsqr s = s.sum
+sum_from (suc more) false zsqr s = s.sum
+sum_from (suc more) true zsqr s = sum_from more (goes_on s.a (next zsqr s)) zsqr (next zsqr s)
 
 -- what the loop starts from
-abbrev pub initialExpansion : Expansion
-initialExpansion = record { sum = one; g = one; i = bits 0x4010_0000_0000_0000; a = maxFinite }
+abbrev pub initial_expansion : Expansion
+initial_expansion = record { sum = one; g = one; i = bits 0x4010_0000_0000_0000; a = max_finite }
 
 -- More iterations than the loop can take: a term's magnitude is a whole number of 2 ^ -1074 below 2 ^ 1024, and it falls or the loop stops
--- (`asymptotic-sum-stops` of proofs/AsymptoticSum.antt).
-unfoldable pub iterationLimit : ℕ
-iterationLimit = 2 ^ 2098
+-- (`asymptotic_sum_stops` of proofs/AsymptoticSum.antt).
+unfoldable pub iteration_limit : ℕ
+iteration_limit = 2 ^ 2098
 
 -- the sum where the source's loop stops
-unfoldable pub asymptoticSum : Float → Float
-unfolding sumFrom iterationLimit
-asymptoticSum zsqr = sumFrom iterationLimit true zsqr initialExpansion
+unfoldable pub asymptotic_sum : Float → Float
+unfolding sum_from iteration_limit
+asymptotic_sum zsqr = sum_from iteration_limit true zsqr initial_expansion
 
 -- from the first down to the second the expansion is summed; below the second it is 1
-abbrev pub firstThreshold : Float
-firstThreshold = bits 0xC024_0000_0000_0000  -- -10
+abbrev pub first_threshold : Float
+first_threshold = bits 0xC024_0000_0000_0000  -- -10
 
-abbrev pub secondThreshold : Float
-secondThreshold = bits 0xC190_0000_0000_0000  -- -67108864
+abbrev pub second_threshold : Float
+second_threshold = bits 0xC190_0000_0000_0000  -- -67108864
 
 -- the probability of a value up to z
-unfoldable pub normCdf : Float → Float
-normCdf z =
-    cond (le z firstThreshold)
-    (cond (le secondThreshold z) (neg (normPdf (z ⊗ z)) ⊗ asymptoticSum (z ⊗ z) ⊘ z) (neg (normPdf (z ⊗ z)) ⊘ z))
-    (half ⊗ erfcCody (neg z ⊗ frac1Sqrt2))
+unfoldable pub norm_cdf : Float → Float
+norm_cdf z =
+    cond (le z first_threshold)
+    (cond (le second_threshold z) (neg (norm_pdf (z ⊗ z)) ⊗ asymptotic_sum (z ⊗ z) ⊘ z) (neg (norm_pdf (z ⊗ z)) ⊘ z))
+    (half ⊗ erfc_cody (neg z ⊗ frac1_sqrt2))
 
 -- ---- the inverse
 
 -- how far from one half the midrange reaches
-abbrev pub uMax : Float
-uMax = bits 0x3FD5_D897_A241_A6FA  -- 0.3413447460685429
+abbrev pub u_max : Float
+u_max = bits 0x3FD5_D897_A241_A6FA  -- 0.3413447460685429
 
 -- the coefficients of the midrange, from the highest power to the lowest
 abbrev pub numerator : List Float
@@ -96,15 +96,15 @@ denominator =
     ∷ bits 0x3FF0_0000_0000_0000  -- 1.0
     ∷ []
 
--- the z of probability u + 0.5, for |u| up to uMax
-unfoldable pub inverseNormCdfmHalfForMidrangeProbabilities : Float → Float
-inverseNormCdfmHalfForMidrangeProbabilities u =
-    let s = mulAdd2Sel u (neg u) (uMax ⊗ uMax) in
+-- the z of probability u + 0.5, for |u| up to u_max
+unfoldable pub inverse_norm_cdfm_half_for_midrange_probabilities : Float → Float
+inverse_norm_cdfm_half_for_midrange_probabilities u =
+    let s = mul_add2_sel u (neg u) (u_max ⊗ u_max) in
     u ⊗ (nested s numerator ⊘ nested s denominator)
 
 -- the coefficients of the branches I to V, likewise
-abbrev pub numeratorI : List Float
-numeratorI =
+abbrev pub numerator_i : List Float
+numerator_i =
     bits 0xC02A_1BAF_5EAC_14A3  -- -13.054_072_340_494_093
     ∷ bits 0xC054_D891_B827_B015  -- -83.383_894_003_636_97
     ∷ bits 0xC052_A60F_5D1B_ACCB  -- -74.594_687_726_045_93
@@ -113,8 +113,8 @@ numeratorI =
     ∷ bits 0x400D_8851_D112_6197  -- 3.691_562_302_945_566
     ∷ []
 
-abbrev pub denominatorI : List Float
-denominatorI =
+abbrev pub denominator_i : List Float
+denominator_i =
     bits 0x3F27_FAD7_8DA3_FBA2  -- 0.000_182_951_748_520_535_3
     ∷ bits 0x4022_7181_31B1_83BA  -- 9.221_688_797_873_743
     ∷ bits 0x404D_A293_603C_109E  -- 59.270_122_556_046_076
@@ -123,8 +123,8 @@ denominatorI =
     ∷ bits 0x3FF0_0000_0000_0000  -- 1.0
     ∷ []
 
-abbrev pub numeratorII : List Float
-numeratorII =
+abbrev pub numerator_ii : List Float
+numerator_ii =
     bits 0xBFF3_3895_DAE6_B322  -- -1.201_314_787_943_552_6
     ∷ bits 0xC024_1E4A_AA23_2FF4  -- -10.059_163_395_686_461
     ∷ bits 0xC032_201D_049A_17C2  -- -18.125_442_779_178_92
@@ -133,8 +133,8 @@ numeratorII =
     ∷ bits 0x4009_DF44_C869_1823  -- 3.234_017_911_631_797
     ∷ []
 
-abbrev pub denominatorII : List Float
-denominatorII =
+abbrev pub denominator_ii : List Float
+denominator_ii =
     bits 0x3EE6_FACD_CAA7_2548  -- 0.000_010_957_576_098_829_594
     ∷ bits 0x3FEB_29C5_36E6_589A  -- 0.848_848_921_991_492_5
     ∷ bits 0x401C_8C44_C663_1387  -- 7.136_981_105_610_977
@@ -143,8 +143,8 @@ denominatorII =
     ∷ bits 0x3FF0_0000_0000_0000  -- 1.0
     ∷ []
 
-abbrev pub numeratorIII : List Float
-numeratorIII =
+abbrev pub numerator_iii : List Float
+numerator_iii =
     bits 0xBFC3_BAF6_D695_9C71  -- -1.541_431_949_401_359_8E-1
     ∷ bits 0xC006_F591_58D2_CF92  -- -2.869_906_133_588_252_8
     ∷ bits 0xC026_241D_1F6F_A26F  -- -1.107_053_468_930_936_7E1
@@ -153,8 +153,8 @@ numeratorIII =
     ∷ bits 0x4009_0075_3821_E2C2  -- 3.125_223_578_008_758_3
     ∷ []
 
-abbrev pub denominatorIII : List Float
-denominatorIII =
+abbrev pub denominator_iii : List Float
+denominator_iii =
     bits 0x3E82_353C_88A0_EFE5  -- 1.356_598_356_444_129_7E-7
     ∷ bits 0x3FBB_E618_5762_1453  -- 1.089_797_223_413_183E-1
     ∷ bits 0x4000_3EE3_A12A_DF96  -- 2.030_707_606_430_904
@@ -163,8 +163,8 @@ denominatorIII =
     ∷ bits 0x3FF0_0000_0000_0000  -- 1.
     ∷ []
 
-abbrev pub numeratorIV : List Float
-numeratorIV =
+abbrev pub numerator_iv : List Float
+numerator_iv =
     bits 0xBF90_828E_70F2_DF2E  -- -0.016_123_033_183_901_45
     ∷ bits 0xBFDE_75FE_19A0_A553  -- -0.475_951_695_467_832_17
     ∷ bits 0xC007_B724_867C_F2CF  -- -2.964_425_135_315_060_4
@@ -173,8 +173,8 @@ numeratorIV =
     ∷ bits 0x4004_EDD3_BA54_E03B  -- 2.616_126_495_089_728_3
     ∷ []
 
-abbrev pub denominatorIV : List Float
-denominatorIV =
+abbrev pub denominator_iv : List Float
+denominator_iv =
     bits 0x3E2A_7F91_48AD_1807  -- 0.000_000_003_084_809_357_096_678_6
     ∷ bits 0x3F87_58ED_D063_5312  -- 0.011_400_087_282_177_594
     ∷ bits 0x3FD5_8B77_DCAE_B8CD  -- 0.336_637_464_056_264
@@ -183,8 +183,8 @@ denominatorIV =
     ∷ bits 0x3FF0_0000_0000_0000  -- 1.0
     ∷ []
 
-abbrev pub numeratorV : List Float
-numeratorV =
+abbrev pub numerator_v : List Float
+numerator_v =
     bits 0xBF51_4FDA_059B_852B  -- -0.001_056_635_772_720_258_4
     ∷ bits 0xBFB0_AC33_B53D_5AC3  -- -0.065_127_593_753_781_67
     ∷ bits 0xBFEB_A4AC_8E3E_93FD  -- -0.863_851_812_192_137_6
@@ -193,8 +193,8 @@ numeratorV =
     ∷ bits 0x4002_94DB_D2C7_CACF  -- 2.322_684_904_787_23
     ∷ []
 
-abbrev pub denominatorV : List Float
-denominatorV =
+abbrev pub denominator_v : List Float
+denominator_v =
     bits 0x3DB9_7005_2B2F_23E1  -- 0.000_000_000_023_135_343_206_304_888
     ∷ bits 0x3F48_7B81_3D2F_81E3  -- 0.000_747_144_799_216_722_6
     ∷ bits 0x3FA7_9484_82B2_C933  -- 0.046_054_974_512_474_44
@@ -203,18 +203,18 @@ denominatorV =
     ∷ bits 0x3FF0_0000_0000_0000  -- 1.0
     ∷ []
 
--- the z of probability p, for p up to 0.5 - uMax; the branches end at 2.05, 3.41, 6.7 and 12.9
-unfoldable pub inverseNormCdfForLowProbabilities : Float → Float
-inverseNormCdfForLowProbabilities p =
+-- the z of probability p, for p up to 0.5 - u_max; the branches end at 2.05, 3.41, 6.7 and 12.9
+unfoldable pub inverse_norm_cdf_for_low_probabilities : Float → Float
+inverse_norm_cdf_for_low_probabilities p =
     let r = sqrt (neg (ln p)) in
-    cond (lt r (bits 0x4000_6666_6666_6666)) (nested r numeratorI ⊘ nested r denominatorI)
-    (cond (lt r (bits 0x400B_47AE_147A_E148)) (nested r numeratorII ⊘ nested r denominatorII)
-    (cond (lt r (bits 0x401A_CCCC_CCCC_CCCD)) (nested r numeratorIII ⊘ nested r denominatorIII)
-    (cond (lt r (bits 0x4029_CCCC_CCCC_CCCD)) (nested r numeratorIV ⊘ nested r denominatorIV) (nested r numeratorV ⊘ nested r denominatorV))))
+    cond (lt r (bits 0x4000_6666_6666_6666)) (nested r numerator_i ⊘ nested r denominator_i)
+    (cond (lt r (bits 0x400B_47AE_147A_E148)) (nested r numerator_ii ⊘ nested r denominator_ii)
+    (cond (lt r (bits 0x401A_CCCC_CCCC_CCCD)) (nested r numerator_iii ⊘ nested r denominator_iii)
+    (cond (lt r (bits 0x4029_CCCC_CCCC_CCCD)) (nested r numerator_iv ⊘ nested r denominator_iv) (nested r numerator_v ⊘ nested r denominator_v))))
 
 -- the z of probability p
-unfoldable pub inverseNormCdf : Float → Float
-inverseNormCdf p =
+unfoldable pub inverse_norm_cdf : Float → Float
+inverse_norm_cdf p =
     let u = p ⊖ half in
-    cond (lt (abs u) uMax) (inverseNormCdfmHalfForMidrangeProbabilities u)
-    (cond (lt plusZero u) (neg (inverseNormCdfForLowProbabilities (one ⊖ p))) (inverseNormCdfForLowProbabilities p))
+    cond (lt (abs u) u_max) (inverse_norm_cdfm_half_for_midrange_probabilities u)
+    (cond (lt plus_zero u) (neg (inverse_norm_cdf_for_low_probabilities (one ⊖ p))) (inverse_norm_cdf_for_low_probabilities p))

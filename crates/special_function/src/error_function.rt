@@ -1,8 +1,8 @@
 // Cody's error functions, and the inverse of erf.
 ghost use Rattle.std.specs.Prelude.{◌≡◌};
 ghost use Rattle.special_function.specs.ErrorFunction.{ab, cd, pq};
-ghost use Rattle.special_function.specs.ErrorFunction.{smoothenedExponentialOfNegativeSquare, smoothenedExponentialOfPositiveSquare};
-ghost use Rattle.special_function.specs.ErrorFunction.{erfCody, erfcAboveThreshold, erfcCody, erfcxCodyAboveThreshold, erfcxCody};
+ghost use Rattle.special_function.specs.ErrorFunction.{smoothened_exponential_of_negative_square, smoothened_exponential_of_positive_square};
+ghost use Rattle.special_function.specs.ErrorFunction.{erf_cody, erfc_above_threshold, erfc_cody, erfcx_cody_above_threshold, erfcx_cody};
 ghost use Rattle.special_function.specs.Erfinv.{erfinv};
 
 use crate::normal_distribution::{
@@ -105,7 +105,7 @@ const TABLE_END: f64 = 2.75;
 // y_tilde is y cut to a multiple of 1/16. By the sum it is the multiple nearest to y - 1/32; at an odd multiple of 1/16 that
 // is a tie, which gives the one below y. There the second test fails.
 fn smoothened_exponential_of_negative_square(y: f64) -> f64
-    ensures { result ≡ smoothenedExponentialOfNegativeSquare y }
+    ensures { result ≡ smoothened_exponential_of_negative_square y }
 {
     if (THRESHOLD < y) & (y < TABLE_END) {
         let t = y - 0.03125 + SIXTEENTHS;
@@ -120,7 +120,7 @@ fn smoothened_exponential_of_negative_square(y: f64) -> f64
 }
 
 fn smoothened_exponential_of_positive_square(x: f64) -> f64
-    ensures { result ≡ smoothenedExponentialOfPositiveSquare x }
+    ensures { result ≡ smoothened_exponential_of_positive_square x }
 {
     let x_tilde = trunc(x * 16.0) * 0.0625;
     exp_product(x_tilde * x_tilde, (x - x_tilde) * (x + x_tilde))
@@ -135,7 +135,7 @@ const XBIG: f64 = 26.543;
 const ONE_OVER_SQRT_PI: f64 = 0.564_189_583_547_756_3;
 
 pub fn erf_cody(x: f64) -> f64
-    ensures { result ≡ erfCody x }
+    ensures { result ≡ erf_cody x }
 {
     let y = abs(x);
     if y <= THRESHOLD {
@@ -162,7 +162,7 @@ pub fn erf_cody(x: f64) -> f64
 }
 
 pub fn erfc_cody(x: f64) -> f64
-    ensures { result ≡ erfcCody x }
+    ensures { result ≡ erfc_cody x }
 {
     let y = abs(x);
     if y <= THRESHOLD {
@@ -178,7 +178,7 @@ pub fn erfc_cody(x: f64) -> f64
 
 // erfc(y) for y above the threshold, which `erfc_cody` takes at |x|.
 fn erfc_above_threshold(y: f64) -> f64
-    ensures { result ≡ erfcAboveThreshold y }
+    ensures { result ≡ erfc_above_threshold y }
 {
     if y >= XBIG {
         return 0.0;
@@ -187,7 +187,7 @@ fn erfc_above_threshold(y: f64) -> f64
 }
 
 fn erfcx_cody_above_threshold(y: f64) -> f64
-    ensures { result ≡ erfcxCodyAboveThreshold y }
+    ensures { result ≡ erfcx_cody_above_threshold y }
 {
     if y <= 4.0 {
         cd(y)
@@ -197,7 +197,7 @@ fn erfcx_cody_above_threshold(y: f64) -> f64
 }
 
 pub fn erfcx_cody(x: f64) -> f64
-    ensures { result ≡ erfcxCody x }
+    ensures { result ≡ erfcx_cody x }
 {
     let y = abs(x);
     if y <= THRESHOLD {

@@ -1,9 +1,9 @@
 // The normal distribution: density, cumulative probability and its inverse.
 ghost use Rattle.std.specs.Prelude.{◌≡◌};
-ghost use Rattle.special_function.specs.Internal.SharedExponential.{same, normPdfOfSquare};
-ghost use Rattle.special_function.specs.NormalDistribution.{normPdf, next, goesOn, asymptoticSum, normCdf};
-ghost use Rattle.special_function.specs.NormalDistribution.{inverseNormCdfmHalfForMidrangeProbabilities};
-ghost use Rattle.special_function.specs.NormalDistribution.{inverseNormCdfForLowProbabilities, inverseNormCdf};
+ghost use Rattle.special_function.specs.Internal.SharedExponential.{same, norm_pdf_of_square};
+ghost use Rattle.special_function.specs.NormalDistribution.{norm_pdf, next, goes_on, asymptotic_sum, norm_cdf};
+ghost use Rattle.special_function.specs.NormalDistribution.{inverse_norm_cdfm_half_for_midrange_probabilities};
+ghost use Rattle.special_function.specs.NormalDistribution.{inverse_norm_cdf_for_low_probabilities, inverse_norm_cdf};
 
 use crate::error_function::erfc_cody;
 use crate::polynomial::rational;
@@ -19,7 +19,7 @@ const FRAC_SQRT_2_PI: f64 = 0.398_942_280_401_432_65;
 
 // The density at x, x2 being x².
 pub fn norm_pdf(x2: f64) -> f64
-    ensures { result ≡ normPdf x2 }
+    ensures { result ≡ norm_pdf x2 }
 {
     FRAC_SQRT_2_PI * exp(-0.5 * x2)
 }
@@ -38,7 +38,7 @@ fn is_same(x: f64, y: f64) -> bool
 // norm_pdf(a * a) for a caller that has exp(-0.5 * a * a), which is used where its argument is the number -0.5 * (a * a):
 // that can fail only where a product underflows or overflows, and for a NaN.
 pub fn norm_pdf_of_square(a: f64, exponential: f64) -> f64
-    ensures { result ≡ normPdfOfSquare a exponential }
+    ensures { result ≡ norm_pdf_of_square a exponential }
 {
     if is_same(-0.5 * (a * a), -0.5 * a * a) {
         return FRAC_SQRT_2_PI * exponential;
@@ -74,7 +74,7 @@ impl Expansion {
 
     // What was taken off is smaller than in the iteration before, and still counts in the sum.
     fn goes_on(self, lasta: f64) -> bool
-        ensures { result ≡ goesOn lasta self }
+        ensures { result ≡ goes_on lasta self }
     {
         lasta > self.a && self.a >= abs(self.sum * EPSILON)
     }
@@ -82,7 +82,7 @@ impl Expansion {
 
 // The sum after the first iteration whose terms no longer fall, or no longer count.
 fn asymptotic_sum(zsqr: f64) -> f64
-    ensures { result ≡ asymptoticSum zsqr }
+    ensures { result ≡ asymptotic_sum zsqr }
 {
     let mut s = Expansion {
         sum: 1.0,
@@ -104,7 +104,7 @@ const NORM_CDF_ASYMPTOTIC_EXPANSION_FIRST_THRESHOLD: f64 = -10.0;
 const NORM_CDF_ASYMPTOTIC_EXPANSION_SECOND_THRESHOLD: f64 = -67_108_864.0;
 
 pub fn norm_cdf(z: f64) -> f64
-    ensures { result ≡ normCdf z }
+    ensures { result ≡ norm_cdf z }
 {
     if z <= NORM_CDF_ASYMPTOTIC_EXPANSION_FIRST_THRESHOLD {
         if z >= NORM_CDF_ASYMPTOTIC_EXPANSION_SECOND_THRESHOLD {
@@ -140,7 +140,7 @@ const DENOMINATOR: [f64; 6] = [
 ];
 
 pub fn inverse_norm_cdfm_half_for_midrange_probabilities(u: f64) -> f64
-    ensures { result ≡ inverseNormCdfmHalfForMidrangeProbabilities u }
+    ensures { result ≡ inverse_norm_cdfm_half_for_midrange_probabilities u }
 {
     let s = mul_add2_sel(u, -u, U_MAX2);
     u * rational(s, &NUMERATOR, &DENOMINATOR)
@@ -238,7 +238,7 @@ const DENOMINATOR_V: [f64; 6] = [
 ];
 
 pub fn inverse_norm_cdf_for_low_probabilities(p: f64) -> f64
-    ensures { result ≡ inverseNormCdfForLowProbabilities p }
+    ensures { result ≡ inverse_norm_cdf_for_low_probabilities p }
 {
     let r = sqrt(-ln(p));
     if r < 2.05 {
@@ -255,7 +255,7 @@ pub fn inverse_norm_cdf_for_low_probabilities(p: f64) -> f64
 }
 
 pub fn inverse_norm_cdf(p: f64) -> f64
-    ensures { result ≡ inverseNormCdf p }
+    ensures { result ≡ inverse_norm_cdf p }
 {
     let u = p - 0.5;
     if abs(u) < U_MAX {

@@ -1,12 +1,12 @@
 // e^(-(j/16)²), the first factor of `smoothened_exponential_of_negative_square` for a y from j/16 to below (j + 1)/16.
 // A `match` is compiled to a table of constants, where an array would be stored to the stack at each call.
 ghost use Rattle.std.specs.Prelude.{◌≡◌, ◌≤◌, ◌<◌};
-ghost use Rattle.special_function.specs.Internal.PowerTable.{powerAt};
+ghost use Rattle.special_function.specs.Internal.PowerTable.{power_at};
 
 pub(crate) fn power_at(j: u64) -> f64
     requires fact_1 { 7 ≤ j }
     requires fact_2 { j < 44 }
-    ensures { result ≡ powerAt j }
+    ensures { result ≡ power_at j }
 {
     match j {
         7 => 0.8257970399501007,

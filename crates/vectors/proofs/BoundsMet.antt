@@ -2,15 +2,15 @@
 -- smallest value up and from the largest down. The probability is NaN here, so that no curve has to be computed; no search passes in NaN. Assumes nothing.
 use mathlib.Core.Path.{◌≡◌, refl}
 use lib.Ieee.{Float, nan, mul, lt, le, eq, of_bits}
-use Rattle.arithmetic.specs.Operations.{bits, maxFinite}
+use Rattle.arithmetic.specs.Operations.{bits, max_finite}
 use Rattle.inverse_gaussian.specs.Loops.{iterate}
-use Rattle.inverse_gaussian.specs.Bracket.{doubled, doubledFrom, widened, doublings, bracketQuantileFromBelow, halved, halvings}
-use Rattle.inverse_gaussian.specs.Survival.{survivalLowered, survivalFromAbove}
+use Rattle.inverse_gaussian.specs.Bracket.{doubled, doubled_from, widened, doublings, bracket_quantile_from_below, halved, halvings}
+use Rattle.inverse_gaussian.specs.Survival.{survival_lowered, survival_from_above}
 
-most-doublings : (mu : Float) → (bracketQuantileFromBelow (bits 1) mu nan).count ≡ 2098
-unfolding bracketQuantileFromBelow doublings iterate doubledFrom widened doubled lt le eq mul of_bits
-most-doublings mu = refl
+most_doublings : (mu : Float) → (bracket_quantile_from_below (bits 1) mu nan).count ≡ 2098
+unfolding bracket_quantile_from_below doublings iterate doubled_from widened doubled lt le eq mul of_bits
+most_doublings mu = refl
 
-most-halvings : (mu : Float) → (survivalFromAbove maxFinite mu nan).count ≡ 2045
-unfolding survivalFromAbove halvings iterate halved survivalLowered lt le eq mul of_bits
-most-halvings mu = refl
+most_halvings : (mu : Float) → (survival_from_above max_finite mu nan).count ≡ 2045
+unfolding survival_from_above halvings iterate halved survival_lowered lt le eq mul of_bits
+most_halvings mu = refl

@@ -13,15 +13,15 @@ use lib.ListN.{length, take, drop, set, get_or, length-append, length-map}
 use lib.Seq.{take-suc-set, take-suc, take_all, length-take-le}
 use Rattle.explicit_black.specs.declared.quote.Reply.{Reply as CodeReply}
 use Rattle.explicit_black.specs.declared.quote.Reply.TheVariants.{Answer, Refusal}
-use Rattle.explicit_black.specs.Replies.{viewReply}
-use Rattle.arithmetic.specs.Laws.Choices.{by-test}
+use Rattle.explicit_black.specs.Replies.{view_reply}
+use Rattle.arithmetic.specs.Laws.Choices.{by_test}
 use Rattle.io.specs.Digits.{last_digits, IsDigitCount}
 use Rattle.xdr_sheet.specs.declared.text.Line.{Line}
 use Rattle.xdr_sheet.specs.declared.text.Placed.{Placed}
 use Rattle.xdr_sheet.specs.declared.text.Placed.TheVariants.{Bytes, NoRoom}
-use Rattle.xdr_sheet.specs.Text.{places, decimal, hexadecimal, answerFields, refusalFields, line}
-use Rattle.xdr_sheet.specs.Internal.Lines.{written, Extended, bytesPlaced, bufferAfter}
-use Rattle.xdr_sheet.specs.Laws.Lines.{few-places}
+use Rattle.xdr_sheet.specs.Text.{places, decimal, hexadecimal, answer_fields, refusal_fields, line}
+use Rattle.xdr_sheet.specs.Internal.Lines.{written, Extended, bytes_placed, buffer_after}
+use Rattle.xdr_sheet.specs.Laws.Lines.{few_places}
 
 -- ---- lines that grow
 pub same_line : (l : Line) → Extended l [] l
@@ -49,9 +49,9 @@ pub from_empty : {a b : Line} {x : List ℕ} → written a ≡ [] → Extended a
 from_empty {x = x} e h = h.text ∙ ap (λ (z : List ℕ). z ++ x) e
 
 -- bytes are added one after another, and then they are all there
-pub next-byte : (a b c : Line) (s : List ℕ) (i : ℕ) → i < length s
+pub next_byte : (a b c : Line) (s : List ℕ) (i : ℕ) → i < length s
     → Extended a (take i s) b → Extended b (get_or s i 0 ∷ []) c → Extended a (take (i + 1) s) c
-next-byte a b c s i h e f = same_text (e then f) (sym (ap (λ (k : ℕ). take k s) (add-one i) ∙ take-suc s i 0 h))
+next_byte a b c s i h e f = same_text (e then f) (sym (ap (λ (k : ℕ). take k s) (add-one i) ∙ take-suc s i 0 h))
 
 pub whole : (a b : Line) (s : List ℕ) (i : ℕ) → length s ≤ i → Extended a (take i s) b → Extended a s b
 whole a b s i h e = same_text e (take_all i s h)
@@ -67,11 +67,11 @@ room l e h = omega (arith, eighty l e)
 pub written_below : (l : Line) → length (map (λ (v : ℕ). v) l.bytes) ≡ 80 → l.length < 80 → l.length ≡ length (written l)
 written_below l e h = sym (length-take-le l.length l.bytes (omega (arith, eighty l.bytes e)))
 
-pub written-above : (l : Line) → length (map (λ (v : ℕ). v) l.bytes) ≡ 80 → 80 ≤ l.length → 80 ≡ length (written l)
-written-above l e h = sym (ap length (take_all l.length l.bytes (omega (arith, eighty l.bytes e))) ∙ eighty l.bytes e)
+pub written_above : (l : Line) → length (map (λ (v : ℕ). v) l.bytes) ≡ 80 → 80 ≤ l.length → 80 ≡ length (written l)
+written_above l e h = sym (ap length (take_all l.length l.bytes (omega (arith, eighty l.bytes e))) ∙ eighty l.bytes e)
 
-take-written : (l : Line) → take (length (written l)) l.bytes ≡ written l
-take-written l = go l.length l.bytes
+take_written : (l : Line) → take (length (written l)) l.bytes ≡ written l
+take_written l = go l.length l.bytes
   where
     go : (n : ℕ) (s : List ℕ) → take (length (take n s)) s ≡ take n s
     go zero s = refl
@@ -88,33 +88,33 @@ one_more l r b h e n = record {
 }
 
 -- ---- the line of a reply
-pub answer-line : (number p q count : ℕ) {total volatility : Float} {a b r : Line} {reply : CodeReply}
-    → written a ≡ [] → Extended a (decimal number) b → Extended b (answerFields p q count) r
+pub answer_line : (number p q count : ℕ) {total volatility : Float} {a b r : Line} {reply : CodeReply}
+    → written a ≡ [] → Extended a (decimal number) b → Extended b (answer_fields p q count) r
     → reply ≡ Answer total volatility count → p ≡ to_bits binary64 total → q ≡ to_bits binary64 volatility
-    → written r ≡ line number (viewReply reply)
+    → written r ≡ line number (view_reply reply)
 unfolding line
-answer-line number p q count e h g i j k = from_empty e (h then g) ∙ rw (i, j, k)
+answer_line number p q count e h g i j k = from_empty e (h then g) ∙ rw (i, j, k)
 
-pub refusal-line : (number reason count : ℕ) {a b r : Line} {reply : CodeReply}
-    → written a ≡ [] → Extended a (decimal number) b → Extended b (refusalFields reason count) r
-    → reply ≡ Refusal reason count → written r ≡ line number (viewReply reply)
+pub refusal_line : (number reason count : ℕ) {a b r : Line} {reply : CodeReply}
+    → written a ≡ [] → Extended a (decimal number) b → Extended b (refusal_fields reason count) r
+    → reply ≡ Refusal reason count → written r ≡ line number (view_reply reply)
 unfolding line
-refusal-line number reason count e h g i = from_empty e (h then g) ∙ rw i
+refusal_line number reason count e h g i = from_empty e (h then g) ∙ rw i
 
 -- ---- a text at the start of a buffer
 abbrev PlacedAs : List ℕ → List ℕ → List ℕ → Placed → Type 0
-PlacedAs text buffer after r = (r ≡ bytesPlaced text buffer) × (after ≡ bufferAfter text buffer)
+PlacedAs text buffer after r = (r ≡ bytes_placed text buffer) × (after ≡ buffer_after text buffer)
 
 pub no_room : (text buffer : List ℕ) → length buffer < length text → PlacedAs text buffer buffer NoRoom
-unfolding bytesPlaced bufferAfter
+unfolding bytes_placed buffer_after
 no_room text buffer h = rw (lt-leb (length text) (length buffer) h) (refl, refl)
 
-pub with-room : (l : Line) (n : ℕ) (buffer after : List ℕ)
+pub with_room : (l : Line) (n : ℕ) (buffer after : List ℕ)
     → n ≡ length (written l) → n ≤ length buffer → after ≡ take n l.bytes ++ drop n buffer → PlacedAs (written l) buffer after (Bytes n)
-unfolding bytesPlaced bufferAfter
-with-room l n buffer after e h p =
+unfolding bytes_placed buffer_after
+with_room l n buffer after e h p =
     let g : length (written l) ≤ length buffer = omega arith in
-    rw (le-leb (length (written l)) (length buffer) g) (ap Bytes e, p ∙ rw (e, take-written l))
+    rw (le-leb (length (written l)) (length buffer) g) (ap Bytes e, p ∙ rw (e, take_written l))
 
 -- ---- how many digits a number has: `Fewest` of the kit's `io` says the same as `places`
 less_one : (k : ℕ) → suc k - 1 ≡ k
@@ -123,10 +123,10 @@ less_one k = omega arith
 more : (k : ℕ) → 1 < suc (suc k)
 more k = omega arith
 
-one-digit : (n k : ℕ) → n < 10 → IsDigitCount 10 1 n k → 1 ≡ k
-one-digit n zero h f = absurd (not-suc-le-zero f.0)
-one-digit n (suc zero) h f = refl
-one-digit n (suc (suc k)) h f =
+one_digit : (n k : ℕ) → n < 10 → IsDigitCount 10 1 n k → 1 ≡ k
+one_digit n zero h f = absurd (not-suc-le-zero f.0)
+one_digit n (suc zero) h f = refl
+one_digit n (suc (suc k)) h f =
     absurd
     (not-le_of_lt h (le_trans (pow-le-pow_right {n = 10} (lit< tt) (le_of_suc-le-suc (more k)))
     (subst (λ (x : ℕ). 10 ^ x ≤ n) (less_one (suc k)) (f.2 (more k)))))
@@ -146,27 +146,27 @@ tenth n k h f = (
 
 places_is : (f n k : ℕ) → n < 10 ^ suc f → IsDigitCount 10 1 n k → places f n ≡ k
 unfolding places
-places_is zero n k h f = one-digit n k h f
+places_is zero n k h f = one_digit n k h f
 places_is (suc f) n k h g =
-    by-test (λ (p : ℕ). p ≡ k) (ltb n 10) (λ below. one-digit n k (ltb-true n 10 below) g)
-    (λ above. more-digits k (ltb-false n 10 above) g (λ j. places_is f (n / 10) j fewer))
+    by_test (λ (p : ℕ). p ≡ k) (ltb n 10) (λ below. one_digit n k (ltb-true n 10 below) g)
+    (λ above. more_digits k (ltb-false n 10 above) g (λ j. places_is f (n / 10) j fewer))
   where
     fewer : n / 10 < 10 ^ suc f
     fewer = (div-lt_iff_lt-mul (lit< tt)).1 (subst (λ (x : ℕ). n < x) (pow-suc 10 (suc f)) h)
 
-    more-digits : (k : ℕ) → 10 ≤ n → IsDigitCount 10 1 n k → ((j : ℕ) → IsDigitCount 10 1 (n / 10) j → places f (n / 10) ≡ j)
+    more_digits : (k : ℕ) → 10 ≤ n → IsDigitCount 10 1 n k → ((j : ℕ) → IsDigitCount 10 1 (n / 10) j → places f (n / 10) ≡ j)
         → suc (places f (n / 10)) ≡ k
-    more-digits zero l g r = absurd (not-suc-le-zero g.0)
-    more-digits (suc zero) l g r = absurd (not-le_of_lt g.1 l)
-    more-digits (suc (suc k)) l g r = ap suc (r (suc k) (tenth n k l g))
+    more_digits zero l g r = absurd (not-suc-le-zero g.0)
+    more_digits (suc zero) l g r = absurd (not-le_of_lt g.1 l)
+    more_digits (suc (suc k)) l g r = ap suc (r (suc k) (tenth n k l g))
 
-pub places-le : (n k : ℕ) → n < 2 ^ 64 → IsDigitCount 10 1 n k → k ≤ 20
-places-le n k h f = subst (λ (x : ℕ). x ≤ 20) (places_is 19 n k (lt_of_lt_of_le h (lit≤ tt)) f) (few-places 19 n)
+pub places_le : (n k : ℕ) → n < 2 ^ 64 → IsDigitCount 10 1 n k → k ≤ 20
+places_le n k h f = subst (λ (x : ℕ). x ≤ 20) (places_is 19 n k (lt_of_lt_of_le h (lit≤ tt)) f) (few_places 19 n)
 
 -- what `io::decimal` and `io::hex` put into their digits
-pub decimal-is : (n k : ℕ) → n < 2 ^ 64 → IsDigitCount 10 1 n k → last_digits 10 k n ≡ decimal n
+pub decimal_is : (n k : ℕ) → n < 2 ^ 64 → IsDigitCount 10 1 n k → last_digits 10 k n ≡ decimal n
 unfolding decimal
-decimal-is n k h f = ap (λ (x : ℕ). last_digits 10 x n) (sym (places_is 19 n k (lt_of_lt_of_le h (lit≤ tt)) f))
+decimal_is n k h f = ap (λ (x : ℕ). last_digits 10 x n) (sym (places_is 19 n k (lt_of_lt_of_le h (lit≤ tt)) f))
 
 pub sixteen : (n k : ℕ) → n < 2 ^ 64 → IsDigitCount 16 16 n k → k ≡ 16
 sixteen n k h f =
@@ -175,6 +175,6 @@ sixteen n k h f =
     too_large : (k : ℕ) → 17 ≤ k → 2 ^ 64 ≤ 16 ^ (k - 1)
     too_large k g = pow-le-pow_right {n = 16} (lit< tt) {i = 16} (omega arith)
 
-pub hexadecimal-is : (n k : ℕ) → n < 2 ^ 64 → IsDigitCount 16 16 n k → last_digits 16 k n ≡ hexadecimal n
+pub hexadecimal_is : (n k : ℕ) → n < 2 ^ 64 → IsDigitCount 16 16 n k → last_digits 16 k n ≡ hexadecimal n
 unfolding hexadecimal
-hexadecimal-is n k h f = ap (λ (x : ℕ). last_digits 16 x n) (sixteen n k h f)
+hexadecimal_is n k h f = ap (λ (x : ℕ). last_digits 16 x n) (sixteen n k h f)

@@ -2,16 +2,16 @@
 use Prim.Native.Char.{code}
 use Rattle.std.specs.Prelude.{ℕ, zero, suc, ◌+◌, ◌-◌, ◌≤◌, cond, List, [], ◌∷◌, ◌++◌, length}
 use Rattle.explicit_black.specs.Quote.{Reply}
-use Rattle.xdr_sheet.specs.Tally.{emptyTally, tallyWith, tallyCount}
-use Rattle.xdr_sheet.specs.Text.{lineBytes, line, letter, closing, refusedSheet, fitsInto, overlaid}
-use Rattle.xdr_sheet.specs.Sheet.{Size, quotes, refused, size, replyAt, SheetReply, replied, noQuote, sheetReply}
+use Rattle.xdr_sheet.specs.Tally.{empty_tally, tally_with, tally_count}
+use Rattle.xdr_sheet.specs.Text.{line_bytes, line, letter, closing, refused_sheet, fits_into, overlaid}
+use Rattle.xdr_sheet.specs.Sheet.{Size, quotes, refused, size, reply_at, SheetReply, replied, no_quote, sheet_reply}
 use Rattle.xdr_sheet.specs.declared.tally.Tally.{Tally}
 use Rattle.xdr_sheet.specs.declared.printing.Progress.{Progress}
 use Rattle.xdr_sheet.specs.declared.printing.Progress.TheVariants.{Tallied, Over}
 
 -- before the first line
 abbrev pub start : Progress
-start = Tallied emptyTally
+start = Tallied empty_tally
 
 -- ---- a line: its text, its letter, and the progress after it
 pub record Step : Type 0 where
@@ -20,36 +20,36 @@ pub record Step : Type 0 where
   pub next : Progress
 
 -- the line of a quote after those tallied; the last, with the tally; the line of a refused sheet
-abbrev pub quoteStep : Tally → Reply → Step
-quoteStep t r = record { text = line (tallyCount t + 1) r; letter = letter r; next = Tallied (tallyWith t r) }
+abbrev pub quote_step : Tally → Reply → Step
+quote_step t r = record { text = line (tally_count t + 1) r; letter = letter r; next = Tallied (tally_with t r) }
 
-abbrev pub lastStep : Tally → Step
-lastStep t = record { text = closing t; letter = code "T"; next = Over }
+abbrev pub last_step_of : Tally → Step
+last_step_of t = record { text = closing t; letter = code "T"; next = Over }
 
-abbrev pub refusedStep : ℕ → Step
-refusedStep number = record { text = refusedSheet number; letter = code "S"; next = Over }
+abbrev pub refused_step : ℕ → Step
+refused_step number = record { text = refused_sheet number; letter = code "S"; next = Over }
 
 -- the line after those of the quotes tallied
-abbrev pub stepAt : Tally → SheetReply → Step
-stepAt t (replied r) = quoteStep t r
-stepAt t noQuote = lastStep t
+abbrev pub step_at : Tally → SheetReply → Step
+step_at t (replied r) = quote_step t r
+step_at t no_quote = last_step_of t
 
 abbrev pub step_of : List ℕ → Tally → Size → Step
-step_of s t (quotes n) = stepAt t (sheetReply s (tallyCount t))
-step_of s t (refused number count) = refusedStep number
+step_of s t (quotes n) = step_at t (sheet_reply s (tally_count t))
+step_of s t (refused number count) = refused_step number
 
 unfoldable pub step : List ℕ → Tally → Step
-unfolding size sheetReply line closing refusedSheet
+unfolding size sheet_reply line closing refused_sheet
 step s t = step_of s t (size s)
 
 -- ---- all lines that are still to come: of m quotes and the last, or of a refused sheet
 unfoldable pub upcoming : List ℕ → Tally → ℕ → List Step
-upcoming s t zero = lastStep t ∷ []
-upcoming s t (suc m) = quoteStep t (replyAt s (tallyCount t)) ∷ upcoming s (tallyWith t (replyAt s (tallyCount t))) m
+upcoming s t zero = last_step_of t ∷ []
+upcoming s t (suc m) = quote_step t (reply_at s (tally_count t)) ∷ upcoming s (tally_with t (reply_at s (tally_count t))) m
 
 abbrev pub rest_of : List ℕ → Tally → Size → List Step
-rest_of s t (quotes n) = upcoming s t (n - tallyCount t)
-rest_of s t (refused number count) = refusedStep number ∷ []
+rest_of s t (quotes n) = upcoming s t (n - tally_count t)
+rest_of s t (refused number count) = refused_step number ∷ []
 
 unfoldable pub rest : List ℕ → Progress → List Step
 unfolding size upcoming
@@ -76,7 +76,7 @@ text before q = record { text = text ++ q.text; next = q.next }
 unfoldable pub part_of : ℕ → Progress → List Step → Part
 part_of room p [] = no_part p
 part_of room p (l ∷ ls) =
-    cond (fitsInto l.text room) (l.text before part_of (room - length l.text) l.next ls) (no_part p)
+    cond (fits_into l.text room) (l.text before part_of (room - length l.text) l.next ls) (no_part p)
 
 unfoldable pub part : List ℕ → Progress → ℕ → Part
 unfolding part_of rest
@@ -91,7 +91,7 @@ parts s p (room ∷ rooms) = (part s p room).text before parts s (part s p room)
 -- each buffer has room for the longest line
 abbrev pub Roomy : List ℕ → Type 0
 Roomy [] = Unit
-Roomy (room ∷ rooms) = (lineBytes ≤ room) × Roomy rooms
+Roomy (room ∷ rooms) = (line_bytes ≤ room) × Roomy rooms
 
 -- ---- a buffer with a part at its start: how many bytes, the progress after them, and the buffer, its other bytes as before
 pub record FilledBuffer : Type 0 where
@@ -99,5 +99,5 @@ pub record FilledBuffer : Type 0 where
   pub next : Progress
   pub buffer : List ℕ
 
-abbrev pub filledWith : List ℕ → Part → FilledBuffer
-filledWith buffer q = record { count = length q.text; next = q.next; buffer = overlaid q.text buffer }
+abbrev pub filled_with : List ℕ → Part → FilledBuffer
+filled_with buffer q = record { count = length q.text; next = q.next; buffer = overlaid q.text buffer }

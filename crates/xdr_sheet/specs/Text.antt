@@ -7,7 +7,7 @@ use Rattle.std.specs.Float.{binary64}
 use Rattle.std.specs.Float.Ieee.{to_bits}
 use Rattle.io.specs.Digits.{last_digits}
 use Rattle.explicit_black.specs.Quote.{Reply, answer, refusal}
-use Rattle.explicit_black.specs.Price.{PriceReply, price, refusal as refusalOfPrice}
+use Rattle.explicit_black.specs.Price.{PriceReply, price, refusal as refusal_of_price}
 use Rattle.xdr_sheet.specs.declared.tally.Tally.{Tally}
 
 -- the bytes of a text in quotation marks
@@ -16,17 +16,17 @@ ascii none = []
 ascii (c before s) = code c ∷ ascii s
 
 -- the most digits of a u64 in decimal, those of a pattern, room for any line, and the most bytes of a line of a sheet
-abbrev pub decimalDigits : ℕ
-decimalDigits = 20
+abbrev pub decimal_digits : ℕ
+decimal_digits = 20
 
-abbrev pub hexadecimalDigits : ℕ
-hexadecimalDigits = 16
+abbrev pub hexadecimal_digits : ℕ
+hexadecimal_digits = 16
 
-abbrev pub lineBytes : ℕ
-lineBytes = 80
+abbrev pub line_bytes : ℕ
+line_bytes = 80
 
-abbrev pub sheetLineBytes : ℕ
-sheetLineBytes = 46
+abbrev pub sheet_line_bytes : ℕ
+sheet_line_bytes = 46
 
 -- how many decimal digits n has, at most k + 1: one for 0
 unfoldable pub places : ℕ → ℕ → ℕ
@@ -40,39 +40,39 @@ decimal n = last_digits 10 (places 19 n) n
 
 -- the 16 hexadecimal digits of a pattern, in lower case
 unfoldable pub hexadecimal : ℕ → List ℕ
-hexadecimal b = last_digits 16 hexadecimalDigits b
+hexadecimal b = last_digits 16 hexadecimal_digits b
 
 -- after the number of a quote: `V`, the patterns of total and volatility, and count
-unfoldable pub answerFields : ℕ → ℕ → ℕ → List ℕ
+unfoldable pub answer_fields : ℕ → ℕ → ℕ → List ℕ
 unfolding decimal hexadecimal
-answerFields total volatility count =
+answer_fields total volatility count =
     ascii " V " ++ hexadecimal total ++ ascii " " ++ hexadecimal volatility ++ ascii " " ++ decimal count ++ ascii "\n"
 
 -- or `R`, refusal and count
-unfoldable pub refusalFields : ℕ → ℕ → List ℕ
+unfoldable pub refusal_fields : ℕ → ℕ → List ℕ
 unfolding decimal
-refusalFields reason count = ascii " R " ++ decimal reason ++ ascii " " ++ decimal count ++ ascii "\n"
+refusal_fields reason count = ascii " R " ++ decimal reason ++ ascii " " ++ decimal count ++ ascii "\n"
 
 -- the line of a quote with its number, and its letter
 unfoldable pub line : ℕ → Reply → List ℕ
-unfolding decimal answerFields refusalFields to_bits
-line number (answer total volatility count) = decimal number ++ answerFields (to_bits binary64 total) (to_bits binary64 volatility) count
-line number (refusal reason count) = decimal number ++ refusalFields reason count
+unfolding decimal answer_fields refusal_fields to_bits
+line number (answer total volatility count) = decimal number ++ answer_fields (to_bits binary64 total) (to_bits binary64 volatility) count
+line number (refusal reason count) = decimal number ++ refusal_fields reason count
 
 abbrev pub letter : Reply → ℕ
 letter (answer total volatility count) = code "V"
 letter (refusal reason count) = code "R"
 
 -- after the number of a price's record: `P` and the pattern of the price
-unfoldable pub priceFields : ℕ → List ℕ
+unfoldable pub price_fields : ℕ → List ℕ
 unfolding hexadecimal
-priceFields p = ascii " P " ++ hexadecimal p ++ ascii "\n"
+price_fields p = ascii " P " ++ hexadecimal p ++ ascii "\n"
 
 -- the line of a price's record with its number; a refusal has the fields of a quote's
-unfoldable pub priceLine : ℕ → PriceReply → List ℕ
-unfolding decimal priceFields refusalFields to_bits
-priceLine number (price p) = decimal number ++ priceFields (to_bits binary64 p)
-priceLine number (refusalOfPrice reason count) = decimal number ++ refusalFields reason count
+unfoldable pub price_line : ℕ → PriceReply → List ℕ
+unfolding decimal price_fields refusal_fields to_bits
+price_line number (price p) = decimal number ++ price_fields (to_bits binary64 p)
+price_line number (refusal_of_price reason count) = decimal number ++ refusal_fields reason count
 
 -- the last line: `T`, finite answers, infinite answers, refusals
 unfoldable pub closing : Tally → List ℕ
@@ -80,13 +80,13 @@ unfolding decimal
 closing t = ascii "T " ++ decimal t.finite ++ ascii " " ++ decimal t.infinite ++ ascii " " ++ decimal t.refusals ++ ascii "\n"
 
 -- a refused sheet: `S` and the number
-unfoldable pub refusedSheet : ℕ → List ℕ
+unfoldable pub refused_sheet : ℕ → List ℕ
 unfolding decimal
-refusedSheet number = ascii "S " ++ decimal number ++ ascii "\n"
+refused_sheet number = ascii "S " ++ decimal number ++ ascii "\n"
 
 -- ---- a text at the start of a buffer: whether it goes into so many bytes, and the buffer with it, its other bytes as before
-abbrev pub fitsInto : List ℕ → ℕ → Bool
-fitsInto text room = leb (length text) room
+abbrev pub fits_into : List ℕ → ℕ → Bool
+fits_into text room = leb (length text) room
 
 abbrev pub overlaid : List ℕ → List ℕ → List ℕ
 overlaid text buffer = text ++ drop (length text) buffer

@@ -1,7 +1,7 @@
 // A price's record: laid out as a quote of a sheet up to its time, with the volatility in the price's place. And its number.
 ghost use Rattle.std.specs.Prelude.{◌≡◌};
-ghost use Rattle.explicit_black.specs.Replies.{viewPriceReply};
-ghost use Rattle.xdr_sheet.specs.PriceRecord.{priceReply, firstNumber, numberAfter};
+ghost use Rattle.explicit_black.specs.Replies.{view_price_reply};
+ghost use Rattle.xdr_sheet.specs.PriceRecord.{price_reply, first_number, number_after};
 
 use crate::sheet::{FORWARD, PRICE, STRIKE, TIME};
 use crate::xdr::{double, unsigned};
@@ -14,7 +14,7 @@ pub const RECORD_BYTES: usize = TIME + DOUBLE_BYTES;
 
 // The reply of the record at the start of the bytes. A figure whose bytes are not all there is read as 0.
 pub fn price_reply(s: &[u8]) -> PriceReply
-    ensures { viewPriceReply result ≡ priceReply s.now }
+    ensures { view_price_reply result ≡ price_reply s.now }
 {
     let side = unsigned(s, 0);
     let volatility = double(s, PRICE);
@@ -39,7 +39,7 @@ pub enum Numbered {
 
 impl RecordNumber {
     pub fn first() -> Numbered
-        ensures { result ≡ firstNumber }
+        ensures { result ≡ first_number }
     {
         Numbered::Record(RecordNumber { number: 1 })
     }
@@ -51,7 +51,7 @@ impl RecordNumber {
     }
 
     pub fn after(self) -> Numbered
-        ensures { result ≡ numberAfter self }
+        ensures { result ≡ number_after self }
     {
         if self.number < u64::MAX {
             return Numbered::Record(RecordNumber {

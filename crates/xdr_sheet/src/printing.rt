@@ -1,11 +1,11 @@
 // The text of a sheet's answers: a line at a time, and as many lines as a buffer holds.
 ghost use Rattle.std.specs.Prelude.{◌≡◌, ◌<◌, length};
-ghost use Rattle.explicit_black.specs.Replies.{viewReply};
-ghost use Rattle.xdr_sheet.specs.Sheet.{maxQuotes};
-ghost use Rattle.xdr_sheet.specs.Tally.{tallyCount};
+ghost use Rattle.explicit_black.specs.Replies.{view_reply};
+ghost use Rattle.xdr_sheet.specs.Sheet.{max_quotes};
+ghost use Rattle.xdr_sheet.specs.Tally.{tally_count};
 ghost use Rattle.xdr_sheet.specs.Text.{letter};
-ghost use Rattle.xdr_sheet.specs.Printing.{start, quoteStep, step, part, filledWith};
-ghost use Rattle.xdr_sheet.specs.Internal.Printing.{viewPrinted, viewFilled};
+ghost use Rattle.xdr_sheet.specs.Printing.{start, quote_step, step, part, filled_with};
+ghost use Rattle.xdr_sheet.specs.Internal.Printing.{view_printed, view_filled};
 
 use crate::sheet::{SheetReply, Size, quotes_in, reply};
 use crate::tally::Tally;
@@ -42,7 +42,7 @@ pub fn start() -> Progress
 }
 
 fn letter(reply: Reply) -> u8
-    ensures { result ≡ letter (viewReply reply) }
+    ensures { result ≡ letter (view_reply reply) }
 {
     match reply {
         Reply::Answer {
@@ -59,8 +59,8 @@ fn letter(reply: Reply) -> u8
 
 // The line of a quote after those tallied.
 fn quote_line(tally: Tally, reply: Reply) -> Printed
-    requires { tallyCount tally < maxQuotes }
-    ensures { viewPrinted result ≡ quoteStep tally (viewReply reply) }
+    requires { tally_count tally < max_quotes }
+    ensures { view_printed result ≡ quote_step tally (view_reply reply) }
 {
     let line = reply_line(tally.quotes() + 1, reply);
     let letter = letter(reply);
@@ -74,7 +74,7 @@ fn quote_line(tally: Tally, reply: Reply) -> Printed
 
 // The line that comes after those of the quotes tallied.
 pub fn next_line(sheet: &[u8], tally: Tally) -> Printed
-    ensures { viewPrinted result ≡ step sheet.now tally }
+    ensures { view_printed result ≡ step sheet.now tally }
 {
     match quotes_in(sheet) {
         Size::Quotes(_) => match reply(sheet, tally.quotes()) {
@@ -101,8 +101,8 @@ pub fn next_line(sheet: &[u8], tally: Tally) -> Printed
 
 // As many whole next lines as the buffer holds, at its start.
 pub fn fill(sheet: &[u8], progress: Progress, out: &mut [u8]) -> Filled
-    ensures { viewFilled result out.new
-        ≡ filledWith out.old (part sheet.now progress (length out.old)) }
+    ensures { view_filled result out.new
+        ≡ filled_with out.old (part sheet.now progress (length out.old)) }
 {
     let mut count: usize = 0;
     let mut next = progress;

@@ -1,9 +1,9 @@
 // A sheet: an unsigned count, then for each quote an unsigned side and the doubles price, forward,
 // strike, time and factor.
 ghost use Rattle.std.specs.Prelude.{◌≡◌, ◌+◌, ◌≤◌, length};
-ghost use Rattle.explicit_black.specs.Replies.{viewReply};
-ghost use Rattle.xdr_sheet.specs.Sheet.{quoteBytes, size, replyFrom, sheetReply};
-ghost use Rattle.xdr_sheet.specs.Replies.{viewSize, viewSheetReply};
+ghost use Rattle.explicit_black.specs.Replies.{view_reply};
+ghost use Rattle.xdr_sheet.specs.Sheet.{quote_bytes, size, reply_from, sheet_reply};
+ghost use Rattle.xdr_sheet.specs.Replies.{view_size, view_sheet_reply};
 
 use crate::xdr::{double, unsigned};
 use explicit_black::discount::implied_black_volatility_discounted;
@@ -50,7 +50,7 @@ pub enum SheetReply {
 
 // Too short for a count, too many quotes, or not as long as their count says: refused.
 pub fn quotes_in(sheet: &[u8]) -> Size
-    ensures { viewSize result ≡ size sheet.now }
+    ensures { view_size result ≡ size sheet.now }
 {
     if sheet.len() < COUNT_BYTES {
         return NO_SHEET;
@@ -68,8 +68,8 @@ pub fn quotes_in(sheet: &[u8]) -> Size
 
 // The reply of the quote that starts at `at`.
 fn quote(sheet: &[u8], at: usize) -> Reply
-    requires { at + quoteBytes ≤ length sheet.now }
-    ensures { viewReply result ≡ replyFrom sheet.now at }
+    requires { at + quote_bytes ≤ length sheet.now }
+    ensures { view_reply result ≡ reply_from sheet.now at }
 {
     let side = unsigned(sheet, at);
     let price = double(sheet, at + PRICE);
@@ -82,7 +82,7 @@ fn quote(sheet: &[u8], at: usize) -> Reply
 
 // The reply of the quote with `index` quotes before it. Each quote of a refused sheet is refused as the sheet is.
 pub fn reply(sheet: &[u8], index: u64) -> SheetReply
-    ensures { viewSheetReply result ≡ sheetReply sheet.now index }
+    ensures { view_sheet_reply result ≡ sheet_reply sheet.now index }
 {
     match quotes_in(sheet) {
         Size::Quotes(count) => {

@@ -1,8 +1,8 @@
 // A tally of a sheet's first quotes: how many finite answers, infinite answers and refusals they have.
 ghost use Rattle.std.specs.Prelude.{◌≡◌, ◌<◌};
-ghost use Rattle.explicit_black.specs.Replies.{viewReply};
-ghost use Rattle.xdr_sheet.specs.Sheet.{maxQuotes};
-ghost use Rattle.xdr_sheet.specs.Tally.{emptyTally, withFinite, withInfinite, withRefusal, tallyWith, tallyCount};
+ghost use Rattle.explicit_black.specs.Replies.{view_reply};
+ghost use Rattle.xdr_sheet.specs.Sheet.{max_quotes};
+ghost use Rattle.xdr_sheet.specs.Tally.{empty_tally, with_finite, with_infinite, with_refusal, tally_with, tally_count};
 
 use arithmetic::basic::is_infinite;
 use explicit_black::quote::Reply;
@@ -16,7 +16,7 @@ pub struct Tally {
 
 impl Tally {
     pub(crate) fn empty() -> Tally
-        ensures { result ≡ emptyTally }
+        ensures { result ≡ empty_tally }
     {
         Tally {
             finite: 0,
@@ -27,15 +27,15 @@ impl Tally {
 
     // How many quotes are tallied.
     pub(crate) fn quotes(self) -> u64
-        ensures { result ≡ tallyCount self }
+        ensures { result ≡ tally_count self }
     {
         self.finite as u64 + self.infinite as u64 + self.refusals as u64
     }
 
     // The tally with one finite answer more.
     fn with_finite(self) -> Tally
-        requires { tallyCount self < maxQuotes }
-        ensures { result ≡ withFinite self }
+        requires { tally_count self < max_quotes }
+        ensures { result ≡ with_finite self }
     {
         Tally {
             finite: self.finite + 1,
@@ -45,8 +45,8 @@ impl Tally {
     }
 
     fn with_infinite(self) -> Tally
-        requires { tallyCount self < maxQuotes }
-        ensures { result ≡ withInfinite self }
+        requires { tally_count self < max_quotes }
+        ensures { result ≡ with_infinite self }
     {
         Tally {
             finite: self.finite,
@@ -56,8 +56,8 @@ impl Tally {
     }
 
     fn with_refusal(self) -> Tally
-        requires { tallyCount self < maxQuotes }
-        ensures { result ≡ withRefusal self }
+        requires { tally_count self < max_quotes }
+        ensures { result ≡ with_refusal self }
     {
         Tally {
             finite: self.finite,
@@ -68,8 +68,8 @@ impl Tally {
 
     // The tally with one quote more, by its reply. An answer is infinite where its volatility is, whatever its total.
     pub(crate) fn with(self, reply: Reply) -> Tally
-        requires { tallyCount self < maxQuotes }
-        ensures { result ≡ tallyWith self (viewReply reply) }
+        requires { tally_count self < max_quotes }
+        ensures { result ≡ tally_with self (view_reply reply) }
     {
         match reply {
             Reply::Answer {

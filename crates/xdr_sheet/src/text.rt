@@ -1,9 +1,9 @@
 // A line of text, built by value. The longest has 78 bytes: two numbers of 20 digits, two of 16, and six bytes between and after them.
 ghost use Rattle.std.specs.Prelude.{◌≡◌, ◌∷◌, [], ◌++◌, ◌+◌, ◌≤◌, ◌<◌, length, take, drop};
-ghost use Rattle.explicit_black.specs.Replies.{viewReply, viewPriceReply};
-ghost use Rattle.xdr_sheet.specs.Text.{lineBytes, decimalDigits, hexadecimalDigits};
-ghost use Rattle.xdr_sheet.specs.Text.{decimal, hexadecimal, answerFields, refusalFields, priceFields, line, priceLine, closing, refusedSheet};
-ghost use Rattle.xdr_sheet.specs.Internal.Lines.{written, Extended, bytesPlaced, bufferAfter};
+ghost use Rattle.explicit_black.specs.Replies.{view_reply, view_price_reply};
+ghost use Rattle.xdr_sheet.specs.Text.{line_bytes, decimal_digits, hexadecimal_digits};
+ghost use Rattle.xdr_sheet.specs.Text.{decimal, hexadecimal, answer_fields, refusal_fields, price_fields, line, price_line, closing, refused_sheet};
+ghost use Rattle.xdr_sheet.specs.Internal.Lines.{written, Extended, bytes_placed, buffer_after};
 
 use crate::price_record::RecordNumber;
 use crate::tally::Tally;
@@ -43,7 +43,7 @@ impl Line {
 
     // How many bytes the text has.
     pub fn count(self) -> usize
-        ensures { (result ≡ length (written self)) × (result ≤ lineBytes) }
+        ensures { (result ≡ length (written self)) × (result ≤ line_bytes) }
     {
         if self.length < LINE_BYTES {
             self.length
@@ -53,7 +53,7 @@ impl Line {
     }
 
     pub(crate) fn byte(self, b: u8) -> Line
-        requires { self.length < lineBytes }
+        requires { self.length < line_bytes }
         ensures { Extended self (b ∷ []) result }
     {
         let at = self.length;
@@ -66,7 +66,7 @@ impl Line {
     }
 
     pub(crate) fn bytes(self, s: &[u8]) -> Line
-        requires { self.length + length s.now ≤ lineBytes }
+        requires { self.length + length s.now ≤ line_bytes }
         ensures { Extended self s.now result }
     {
         let mut line = self;
@@ -79,8 +79,8 @@ impl Line {
     }
 
     pub(crate) fn decimal(self, n: u64) -> Line
-        requires { self.length + decimalDigits ≤ lineBytes }
-        ensures { Extended self (decimal n) result × (result.length ≤ self.length + decimalDigits) }
+        requires { self.length + decimal_digits ≤ line_bytes }
+        ensures { Extended self (decimal n) result × (result.length ≤ self.length + decimal_digits) }
     {
         let mut digits = [0u8; DECIMAL_DIGITS];
         let k = io::decimal(n, &mut digits);
@@ -88,8 +88,8 @@ impl Line {
     }
 
     pub(crate) fn hexadecimal(self, bits: u64) -> Line
-        requires { self.length + hexadecimalDigits ≤ lineBytes }
-        ensures { Extended self (hexadecimal bits) result × (result.length ≡ self.length + hexadecimalDigits) }
+        requires { self.length + hexadecimal_digits ≤ line_bytes }
+        ensures { Extended self (hexadecimal bits) result × (result.length ≡ self.length + hexadecimal_digits) }
     {
         let mut digits = [0u8; HEXADECIMAL_DIGITS];
         let k = io::hex(bits, HEXADECIMAL_DIGITS, &mut digits);
@@ -98,8 +98,8 @@ impl Line {
 
     // What follows the number of a quote that is answered.
     fn answer(self, total: u64, volatility: u64, count: u64) -> Line
-        requires { self.length ≤ decimalDigits }
-        ensures { Extended self (answerFields total volatility count) result }
+        requires { self.length ≤ decimal_digits }
+        ensures { Extended self (answer_fields total volatility count) result }
     {
         self.bytes(b" V ")
             .hexadecimal(total)
@@ -112,8 +112,8 @@ impl Line {
 
     // What follows the number of a quote that is refused.
     fn refusal(self, reason: u64, count: u64) -> Line
-        requires { self.length ≤ decimalDigits }
-        ensures { Extended self (refusalFields reason count) result }
+        requires { self.length ≤ decimal_digits }
+        ensures { Extended self (refusal_fields reason count) result }
     {
         self.bytes(b" R ")
             .decimal(reason)
@@ -124,8 +124,8 @@ impl Line {
 
     // What follows the number of a record that has a price.
     fn price(self, bits: u64) -> Line
-        requires { self.length ≤ decimalDigits }
-        ensures { Extended self (priceFields bits) result }
+        requires { self.length ≤ decimal_digits }
+        ensures { Extended self (price_fields bits) result }
     {
         self.bytes(b" P ").hexadecimal(bits).bytes(b"\n")
     }
@@ -133,7 +133,7 @@ impl Line {
 
 // The line of a reply with the quote's number.
 pub fn reply_line(number: u64, reply: Reply) -> Line
-    ensures { written result ≡ line number (viewReply reply) }
+    ensures { written result ≡ line number (view_reply reply) }
 {
     let start = Line::empty().decimal(number);
     match reply {
@@ -151,7 +151,7 @@ pub fn reply_line(number: u64, reply: Reply) -> Line
 
 // The line of a price's reply with its record's number.
 pub fn price_line(number: RecordNumber, reply: PriceReply) -> Line
-    ensures { written result ≡ priceLine number.number (viewPriceReply reply) }
+    ensures { written result ≡ price_line number.number (view_price_reply reply) }
 {
     let start = Line::empty().decimal(number.number());
     match reply {
@@ -179,7 +179,7 @@ pub fn closing_line(tally: Tally) -> Line
 
 // The line of a refused sheet.
 pub fn refused_line(number: u32) -> Line
-    ensures { written result ≡ refusedSheet number }
+    ensures { written result ≡ refused_sheet number }
 {
     Line::empty()
         .bytes(b"S ")
@@ -189,8 +189,8 @@ pub fn refused_line(number: u32) -> Line
 
 // Puts a line at the start of a lent buffer.
 pub fn place(line: Line, out: &mut [u8]) -> Placed
-    ensures { (result ≡ bytesPlaced (written line) out.old)
-        × (out.new ≡ bufferAfter (written line) out.old) }
+    ensures { (result ≡ bytes_placed (written line) out.old)
+        × (out.new ≡ buffer_after (written line) out.old) }
 {
     let count = line.count();
     if out.len() < count {
@@ -202,7 +202,7 @@ pub fn place(line: Line, out: &mut [u8]) -> Placed
 }
 
 fn copy(bytes: [u8; LINE_BYTES], count: usize, out: &mut [u8])
-    requires { (count ≤ lineBytes) × (count ≤ length out.old) }
+    requires { (count ≤ line_bytes) × (count ≤ length out.old) }
     ensures { out.new ≡ take count bytes ++ drop count out.old }
 {
     let mut i: usize = 0;

@@ -2,38 +2,38 @@
 use Rattle.std.specs.Prelude.{Bool, ◌&&◌, Float}
 use Rattle.std.specs.Float.Ieee.{lt, neg}
 use Rattle.arithmetic.specs.Operations.{◌⊕◌, ◌⊖◌, ◌⊗◌, bits}
-use Rattle.arithmetic.specs.Exp.{invLn2}
+use Rattle.arithmetic.specs.Exp.{inv_ln2}
 
 -- 11 / 32: for an x of smaller magnitude k is 0
-abbrev pub nearLimit : Float
-nearLimit = bits 0x3FD6_0000_0000_0000
+abbrev pub near_limit : Float
+near_limit = bits 0x3FD6_0000_0000_0000
 
-abbrev pub nearZero : Float → Bool
-nearZero x = lt x nearLimit && lt (neg nearLimit) x
+abbrev pub near_zero : Float → Bool
+near_zero x = lt x near_limit && lt (neg near_limit) x
 
 -- 708: for an x of smaller magnitude 2 ^ k is a normal number
-abbrev pub fastLimit : Float
-fastLimit = bits 0x4086_2000_0000_0000
+abbrev pub fast_limit : Float
+fast_limit = bits 0x4086_2000_0000_0000
 
 -- x is a number between -708 and 708, far from where e ^ x overflows or is subnormal
-abbrev pub inFastRange : Float → Bool
-inFastRange x = lt x fastLimit && lt (neg fastLimit) x
+abbrev pub in_fast_range : Float → Bool
+in_fast_range x = lt x fast_limit && lt (neg fast_limit) x
 
 -- 3 * 2 ^ 51 + 1023: values of this size are whole numbers, so the sum of x / ln 2 and this is rounded to the nearest
 abbrev pub shift : Float
 shift = bits 0x4338_0000_0000_03FF
 
 abbrev pub shifted : Float → Float
-shifted x = x ⊗ invLn2 ⊕ shift
+shifted x = x ⊗ inv_ln2 ⊕ shift
 
 -- 1 / 2 - 2 ^ -16, a little less than the distance of a tie
-abbrev pub maxRest : Float
-maxRest = bits 0x3FDF_FFC0_0000_0000
+abbrev pub max_rest : Float
+max_rest = bits 0x3FDF_FFC0_0000_0000
 
 -- how far x / ln 2 is from the whole number that the sum gives
 abbrev pub rest : Float → Float
-rest x = x ⊗ invLn2 ⊖ (shifted x ⊖ shift)
+rest x = x ⊗ inv_ln2 ⊖ (shifted x ⊖ shift)
 
 -- x / ln 2 is clear of every tie, half way between two whole numbers, so the number that the sum gives is the k of `exp`
-abbrev pub clearOfTie : Float → Bool
-clearOfTie x = lt (rest x) maxRest && lt (neg maxRest) (rest x)
+abbrev pub clear_of_tie : Float → Bool
+clear_of_tie x = lt (rest x) max_rest && lt (neg max_rest) (rest x)

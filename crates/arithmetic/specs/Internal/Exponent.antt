@@ -11,7 +11,7 @@ pub record InRange (e : ℤ) : Type 0 where
 
 -- in range, and from -l to h
 pub record Exponent (l h : ℕ) (e : ℤ) : Type 0 where
-  pub in-range : InRange e
+  pub in_range : InRange e
   pub least : neg_ℤ (pos l) ≤ℤ e
   pub most : e ≤ℤ pos h
 

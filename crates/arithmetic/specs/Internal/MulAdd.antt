@@ -40,10 +40,10 @@ pub record ProductExponent (u v : Parts) (r : ℤ) : Type 0 where
 pub record Operands (p : ℕ) (ep : ℤ) (m : ℕ) (em : ℤ) : Type 0 where
   pub product_small : p < 2 ^ 106
   pub addend_small : m < 2 ^ 53
-  pub product-exponent : TermExponent ep
-  pub addend-exponent : OperandExponent em
-  pub product-lead : 1074 < above 2148 ep → 2 ^ 52 ≤ p
-  pub addend-lead : 0 < above 1074 em → 2 ^ 52 ≤ m
+  pub product_exponent : TermExponent ep
+  pub addend_exponent : OperandExponent em
+  pub product_lead : 1074 < above 2148 ep → 2 ^ 52 ≤ p
+  pub addend_lead : 0 < above 1074 em → 2 ^ 52 ≤ m
 
 -- the terms r have the rounded sum of the product and the addend, whatever the signs
 pub record Aligned (p : ℕ) (ep : ℤ) (m : ℕ) (em : ℤ) (r : Terms) : Type 0 where
@@ -51,7 +51,7 @@ pub record Aligned (p : ℕ) (ep : ℤ) (m : ℕ) (em : ℤ) (r : Terms) : Type 
       → sum binary64 s (p * 2 ^ above 2148 ep) t (m * 2 ^ above 2148 em) (2 ^ 2148)
       ≡ sum binary64 s (val r.a * 2 ^ above 2148 r.e) t (val r.b * 2 ^ above 2148 r.e) (2 ^ 2148)
   pub first_small : val r.a < 2 ^ 127
-  pub second-small : val r.b < 2 ^ 127
+  pub second_small : val r.b < 2 ^ 127
   pub exponent : TermExponent r.e
 
 -- the rounded v * 2 ^ e, for a v that is not 0, has its last digit at 2 ^ at: 53 digits are kept, or those from 2 ^ -1074 on

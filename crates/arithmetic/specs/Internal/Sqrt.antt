@@ -1,6 +1,6 @@
 -- What the steps of `sqrt` ask and promise: the nearest whole root of w * 2 ^ 52, for the leading digits w of the number under the root.
 use Rattle.std.specs.Prelude.{◌≡◌, ℕ, ◌+◌, ◌*◌, ◌^◌, ◌<◌, ◌≤◌}
-use Rattle.arithmetic.specs.Sqrt.{closestRoot}
+use Rattle.arithmetic.specs.Sqrt.{closest_root}
 
 -- w has 53 or 54 binary digits, and not 54 ones
 abbrev pub Radicand : ℕ → Type 0
@@ -8,4 +8,4 @@ Radicand w = (2 ^ 52 ≤ w) × (w + 1 < 2 ^ 54)
 
 -- q is the whole number nearest to √(w * 2 ^ 52), and has 53 binary digits
 abbrev pub Closest : ℕ → ℕ → Type 0
-Closest w q = (q ≡ closestRoot (w * 2 ^ 52) 0) × (2 ^ 52 ≤ q) × (q < 2 ^ 53)
+Closest w q = (q ≡ closest_root (w * 2 ^ 52) 0) × (2 ^ 52 ≤ q) × (q < 2 ^ 53)

@@ -9,14 +9,14 @@ in_both P true h g = h
 in_both P false h g = g
 
 -- and what holds of one side where the test is true, of the other where it is false
-pub by-test : {A : Type 0} (P : A → Type 0) (b : Bool) {x y : A} → (b ≡ true → P x) → (b ≡ false → P y) → P (cond b x y)
-by-test P true h g = h refl
-by-test P false h g = g refl
+pub by_test : {A : Type 0} (P : A → Type 0) (b : Bool) {x y : A} → (b ≡ true → P x) → (b ≡ false → P y) → P (cond b x y)
+by_test P true h g = h refl
+by_test P false h g = g refl
 
 -- two choices by one test, with the same where it is true
-pub on-false : {A : Type 0} (b : Bool) (x : A) {y z : A} → (b ≡ false → y ≡ z) → cond b x y ≡ cond b x z
-on-false true x h = refl
-on-false false x h = h refl
+pub on_false : {A : Type 0} (b : Bool) (x : A) {y z : A} → (b ≡ false → y ≡ z) → cond b x y ≡ cond b x z
+on_false true x h = refl
+on_false false x h = h refl
 
 -- a test that cannot hold
 pub refuted : (b : Bool) → (T b → ⊥) → b ≡ false
@@ -31,9 +31,9 @@ abbrev pub Passed : ℕ → ℕ → ℕ → Type 0
 Passed s zero k = Unit
 Passed s (suc n) k = Passed s n k × (k ≢ s + n)
 
-pub all-passed : (s n k : ℕ) → s ≤ k → Passed s n k → s + n ≤ k
-all-passed s zero k l p = omega arith
-all-passed s (suc n) k l p = above (all-passed s n k l p.0) p.1
+pub all_passed : (s n k : ℕ) → s ≤ k → Passed s n k → s + n ≤ k
+all_passed s zero k l p = omega arith
+all_passed s (suc n) k l p = above (all_passed s n k l p.0) p.1
   where
     above : s + n ≤ k → (k ≢ s + n) → s + suc n ≤ k
     above h g = omega arith

@@ -8,20 +8,20 @@ use Rattle.std.specs.Float.Ieee.{low, round, lt, below, fits}
 use Rattle.std.specs.Float.Ieee.Bits.{is_true}
 use Rattle.std.specs.Float.Ieee.Scale.{finite, grid, overflow, round_same}
 use Rattle.std.specs.Float.Ieee.Positive.{num, den, den_pos}
-use Rattle.arithmetic.specs.Basic.{isSignMinus}
-use Rattle.arithmetic.specs.Laws.Numbers.{lt-or-le}
-use Rattle.arithmetic.specs.Laws.Times.{Times, cross, of-cross}
-use Rattle.arithmetic.specs.Laws.Rounding.{Normal, safe-grid, round-value, round_under}
-use Rattle.arithmetic.specs.Laws.Representable.{whole, value-under}
-use Rattle.arithmetic.specs.Laws.Sums.{round-finite}
-use Rattle.arithmetic.specs.Laws.Compare.{lt-is}
-use Rattle.arithmetic.specs.Laws.Sizes.{round-minus}
+use Rattle.arithmetic.specs.Basic.{is_sign_minus}
+use Rattle.arithmetic.specs.Laws.Numbers.{lt_or_le}
+use Rattle.arithmetic.specs.Laws.Times.{Times, cross, of_cross}
+use Rattle.arithmetic.specs.Laws.Rounding.{Normal, safe_grid, round_value, round_under}
+use Rattle.arithmetic.specs.Laws.Representable.{whole, value_under}
+use Rattle.arithmetic.specs.Laws.Sums.{round_finite}
+use Rattle.arithmetic.specs.Laws.Compare.{lt_is}
+use Rattle.arithmetic.specs.Laws.Sizes.{round_minus}
 
 -- a value is w units of the format's smallest, and w is below the overflow
-units-below : (y : Float) → T (fits binary64 y) → T (finite y) → (w : ℕ) × (num y * 2 ^ low binary64 ≡ w * den y) × (w < overflow binary64)
-units-below y F p =
+units_below : (y : Float) → T (fits binary64 y) → T (finite y) → (w : ℕ) × (num y * 2 ^ low binary64 ≡ w * den y) × (w < overflow binary64)
+units_below y F p =
     let (w, e) = whole binary64 y F p in
-    (w, e, value-under binary64 y (isSignMinus y) w F (of-cross y (isSignMinus y) w (2 ^ low binary64) p refl e))
+    (w, e, value_under binary64 y (is_sign_minus y) w F (of_cross y (is_sign_minus y) w (2 ^ low binary64) p refl e))
 
 -- n / d is a value, of which r times as much, n' / d', is w units 1 / l: it is below q / b of g units where r * g is more than w
 less : (n d n' d' r l w q b g o : ℕ) → 0 < d → 0 < d' → 0 < b → n' * d ≡ n * r * d' → n' * l ≡ w * d' → w < o → o ≤ g * r → q * l ≡ g * b
@@ -56,29 +56,29 @@ module _ (k a c a' c' : ℕ) (C : 0 < c) (C' : 0 < c') (e : a' * c ≡ a * (2 ^ 
   larger = round binary64 false a' c'
 
   past : (T (finite larger) → ⊥) → overflow binary64 ≤ grid binary64 a c * 2 ^ k
-  past h = go (lt-or-le (grid binary64 (a * 2 ^ k) c) (overflow binary64))
+  past h = go (lt_or_le (grid binary64 (a * 2 ^ k) c) (overflow binary64))
     where
       same : larger ≡ round binary64 false (a * 2 ^ k) c
       same = round_same binary64 false a' c' (a * 2 ^ k) c C' C (e ∙ sym (mul_assoc a (2 ^ k) c'))
 
       go : (grid binary64 (a * 2 ^ k) c < overflow binary64) ⊎ (overflow binary64 ≤ grid binary64 (a * 2 ^ k) c)
           → overflow binary64 ≤ grid binary64 a c * 2 ^ k
-      go (inl l) = absurd (h (subst (λ (z : Float). T (finite z)) (sym same) (round-finite binary64 false (a * 2 ^ k) c l)))
-      go (inr g) = le_trans g (le_of_eq (safe-grid binary64 a c k C (inl N)))
+      go (inl l) = absurd (h (subst (λ (z : Float). T (finite z)) (sym same) (round_finite binary64 false (a * 2 ^ k) c l)))
+      go (inr g) = le_trans g (le_of_eq (safe_grid binary64 a c k C (inl N)))
 
   module _ (p : T (finite smaller)) (h : T (finite larger) → ⊥) (y y' : Float) (F : T (fits binary64 y')) (t : Times k y y') where
     under : num y * den smaller < num smaller * den y
     under =
-        let (w, u, small) = units-below y' F t.finite-r in
-        let value = cross smaller false (grid binary64 a c) (2 ^ low binary64) (round-value binary64 false a c (round_under binary64 false a c p)) in
+        let (w, u, small) = units_below y' F t.finite_r in
+        let value = cross smaller false (grid binary64 a c) (2 ^ low binary64) (round_value binary64 false a c (round_under binary64 false a c p)) in
         less (num y) (den y) (num y') (den y') (2 ^ k) (2 ^ low binary64) w (num smaller) (den smaller) (grid binary64 a c) (overflow binary64)
         (den_pos y) (den_pos y') (den_pos smaller) t.value u small (past h) value
 
-    pub overflow-above : lt y smaller ≡ true
-    overflow-above =
-        lt-is y smaller t.finite-l p
-        ∙ ap (λ (z : Bool). below (isSignMinus y) (num y * den smaller) z (num smaller * den y)) (round-minus false a c)
-        ∙ go (isSignMinus y) (num y * den smaller) (num smaller * den y) under
+    pub overflow_above : lt y smaller ≡ true
+    overflow_above =
+        lt_is y smaller t.finite_l p
+        ∙ ap (λ (z : Bool). below (is_sign_minus y) (num y * den smaller) z (num smaller * den y)) (round_minus false a c)
+        ∙ go (is_sign_minus y) (num y * den smaller) (num smaller * den y) under
       where
         go : (s : Bool) (a b : ℕ) → a < b → below s a false b ≡ true
         go false a b l = is_true (nat_lt a b) (lt→ltb a b l)

@@ -11,7 +11,7 @@ use Rattle.std.specs.Float.Ieee.Bits.{of_bits-to_bits, nan_bits_is, nan_bits_abo
 use Rattle.std.specs.Float.Ieee.Exact.{HasValue, odd_sign}
 use Rattle.std.specs.Float.Ieee.Nearest.{div_same}
 use Rattle.std.specs.Float.Ieee.Scale.{finite}
-use Rattle.arithmetic.specs.Laws.Numbers.{false-not}
+use Rattle.arithmetic.specs.Laws.Numbers.{false_not}
 
 -- ---- the fields of a pattern
 pub of_bits_is : (b : ℕ) → of_bits binary64 b ≡ of_fields binary64 (nat_le 9223372036854775808 b) (b % 9223372036854775808 / 4503599627370496) (b % 4503599627370496)
@@ -41,17 +41,17 @@ under_ones : (s : Bool) (x t : ℕ) → suc x < 2047 → of_fields binary64 s (s
 under_ones s x t h = above_zero s x t ∙ rw (ne_eqb (suc x) 2047 (λ e. omega arith))
 
 -- the finite values: the digits t, after a leading one where the field is not 0
-pub read-zero : (s : Bool) (t : ℕ) → HasValue (of_fields binary64 s 0 t) s (t * 2 ^ 0) (2 ^ 1074)
-read-zero s t = subst (λ (v : Float). HasValue v s (t * 2 ^ 0) (2 ^ 1074)) (sym (at_zero s t)) (odd_sign 53 s t 0 1074)
+pub read_zero : (s : Bool) (t : ℕ) → HasValue (of_fields binary64 s 0 t) s (t * 2 ^ 0) (2 ^ 1074)
+read_zero s t = subst (λ (v : Float). HasValue v s (t * 2 ^ 0) (2 ^ 1074)) (sym (at_zero s t)) (odd_sign 53 s t 0 1074)
 
 pub read_more : (s : Bool) (x t : ℕ) → suc x < 2047 → HasValue (of_fields binary64 s (suc x) t) s ((4503599627370496 + t) * 2 ^ x) (2 ^ 1074)
 read_more s x t h =
     subst (λ (v : Float). HasValue v s ((4503599627370496 + t) * 2 ^ x) (2 ^ 1074)) (sym (under_ones s x t h))
     (odd_sign 53 s (4503599627370496 + t) x 1074)
 
-pub finite-field : (s : Bool) (x t : ℕ) → T (finite (of_fields binary64 s x t)) → x ≢ 2047
+pub finite_field : (s : Bool) (x t : ℕ) → T (finite (of_fields binary64 s x t)) → x ≢ 2047
 unfolding of_fields
-finite-field s x t h e = go (t == 0) (subst (λ (y : ℕ). T (finite (of_fields binary64 s y t))) e h)
+finite_field s x t h e = go (t == 0) (subst (λ (y : ℕ). T (finite (of_fields binary64 s y t))) e h)
   where
     go : (b : Bool) → T (finite (cond b (inf s) nan)) → ⊥
     go true k = k
@@ -84,11 +84,11 @@ built k q K lo hi =
     normal b (omega arith) (omega arith) ∙ rw (d, e)
 
 -- ---- patterns of no NaN
-pub bits-no-nan : (b : ℕ) → b % 9223372036854775808 ≤ 9218868437227405312 → T (not (nan_bits binary64 b))
-bits-no-nan b h = false-not (nan_bits binary64 b) (nan_bits_above binary64 b ∙ le-ltb 9218868437227405312 (b % 9223372036854775808) h)
+pub bits_no_nan : (b : ℕ) → b % 9223372036854775808 ≤ 9218868437227405312 → T (not (nan_bits binary64 b))
+bits_no_nan b h = false_not (nan_bits binary64 b) (nan_bits_above binary64 b ∙ le-ltb 9218868437227405312 (b % 9223372036854775808) h)
 
-pub built-no-nan : (k q : ℕ) → k < 2046 → q < 9007199254740992 → T (not (nan_bits binary64 (k * 4503599627370496 + q)))
-built-no-nan k q K hi = bits-no-nan (k * 4503599627370496 + q) (omega arith)
+pub built_no_nan : (k q : ℕ) → k < 2046 → q < 9007199254740992 → T (not (nan_bits binary64 (k * 4503599627370496 + q)))
+built_no_nan k q K hi = bits_no_nan (k * 4503599627370496 + q) (omega arith)
 
 -- what is no NaN has, with the sign taken off, at most the infinity's pattern
 pub no_nan : (b : ℕ) → is_nan (of_bits binary64 b) ≡ false → b % 9223372036854775808 ≤ 9218868437227405312
@@ -107,5 +107,5 @@ bits_of f (fin t m e) s a c C v =
     (mul_right_comm (m * up e) (2 ^ low f) c ∙ ap (λ (z : ℕ). z * 2 ^ low f) v.1 ∙ mul_right_comm a (down e) (2 ^ low f)))
     ∙ ap (λ (b : Bool). bits_at f b (a * 2 ^ low f / c)) v.0
 
-pub value-unique : (f : Format) (x y : Float) (s : Bool) (a c : ℕ) → 0 < c → T (fits f x) → T (fits f y) → HasValue x s a c → HasValue y s a c → x ≡ y
-value-unique f x y s a c C p q v w = sym (of_bits-to_bits f x p) ∙ ap (of_bits f) (bits_of f x s a c C v ∙ sym (bits_of f y s a c C w)) ∙ of_bits-to_bits f y q
+pub value_unique : (f : Format) (x y : Float) (s : Bool) (a c : ℕ) → 0 < c → T (fits f x) → T (fits f y) → HasValue x s a c → HasValue y s a c → x ≡ y
+value_unique f x y s a c C p q v w = sym (of_bits-to_bits f x p) ∙ ap (of_bits f) (bits_of f x s a c C v ∙ sym (bits_of f y s a c C w)) ∙ of_bits-to_bits f y q

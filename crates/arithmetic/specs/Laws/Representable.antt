@@ -11,9 +11,9 @@ use Rattle.std.specs.Float.Ieee.Order.{round_mono, drop, kept}
 use Rattle.std.specs.Float.Ieee.Scale.{finite, grid, overflow}
 use Rattle.std.specs.Float.Ieee.Positive.{num, den, den_pos}
 use Rattle.arithmetic.specs.Laws.Numbers.{pow_le_back}
-use Rattle.arithmetic.specs.Laws.Ratio.{same-fraction}
-use Rattle.arithmetic.specs.Laws.Patterns.{value-unique}
-use Rattle.arithmetic.specs.Laws.Times.{has-finite, cross}
+use Rattle.arithmetic.specs.Laws.Ratio.{same_fraction}
+use Rattle.arithmetic.specs.Laws.Patterns.{value_unique}
+use Rattle.arithmetic.specs.Laws.Times.{has_finite, cross}
 use Rattle.arithmetic.specs.Laws.Rounding.{Whole, round_under}
 
 -- x is digits * 2 ^ place of the format's smallest values
@@ -75,45 +75,45 @@ representable f (fin s (suc m) e) h p =
 pub whole : (f : Format) (x : Float) → T (fits f x) → T (finite x) → Whole f (num x) (den x)
 whole f x h p = ((representable f x h p).digits * 2 ^ (representable f x h p).place, (representable f x h p).exact)
 
-pub round-representable : (f : Format) (s : Bool) (x : Float) → T (fits f x) → T (finite x) → HasValue (round f s (num x) (den x)) s (num x) (den x)
-round-representable f s x h p =
+pub round_representable : (f : Format) (s : Bool) (x : Float) → T (fits f x) → T (finite x) → HasValue (round f s (num x) (den x)) s (num x) (den x)
+round_representable f s x h p =
     let o = representable f x h p in
     round_exact f s (num x) (den x) o.digits o.place (den_pos x) o.few o.under o.exact
 
 -- so a fraction that equals a value of the format is rounded to that value
-pub round-self : (f : Format) (x : Float) (s : Bool) (a c : ℕ) → 0 < c → T (fits f x) → HasValue x s a c → round f s a c ≡ x
-round-self f x s a c C h v =
-    let o = representable f x h (has-finite x s a c v) in
+pub round_self : (f : Format) (x : Float) (s : Bool) (a c : ℕ) → 0 < c → T (fits f x) → HasValue x s a c → round f s a c ≡ x
+round_self f x s a c C h v =
+    let o = representable f x h (has_finite x s a c v) in
     let n = o.digits * 2 ^ o.place in
-    let units : a * 2 ^ low f ≡ n * c = same-fraction (num x) (den x) a c n (2 ^ low f) (den_pos x) (cross x s a c v) o.exact in
-    value-unique f (round f s a c) x s a c C (round-fits f s a c) h (round_exact f s a c o.digits o.place C o.few o.under units) v
+    let units : a * 2 ^ low f ≡ n * c = same_fraction (num x) (den x) a c n (2 ^ low f) (den_pos x) (cross x s a c v) o.exact in
+    value_unique f (round f s a c) x s a c C (round-fits f s a c) h (round_exact f s a c o.digits o.place C o.few o.under units) v
 
 -- a value of n of the format's smallest values
-pub value-under : (f : Format) (x : Float) (s : Bool) (n : ℕ) → T (fits f x) → HasValue x s n (2 ^ low f) → n < overflow f
-value-under f x s n h v =
-    let o = representable f x h (has-finite x s n (2 ^ low f) v) in
+pub value_under : (f : Format) (x : Float) (s : Bool) (n : ℕ) → T (fits f x) → HasValue x s n (2 ^ low f) → n < overflow f
+value_under f x s n h v =
+    let o = representable f x h (has_finite x s n (2 ^ low f) v) in
     let m = o.digits * 2 ^ o.place in
     subst (λ (z : ℕ). z < overflow f) (eq_of_mul-eq-mul_right (den x) (den_pos x) m n (sym o.exact ∙ cross x s n (2 ^ low f) v)) o.under
 
 -- ---- no overflow
-below-finite : (f : Format) (q k : ℕ) (z : Float) → T (finite z) → T (le (units f false q k) z) → T (finite (units f false q k))
+below_finite : (f : Format) (q k : ℕ) (z : Float) → T (finite z) → T (le (units f false q k) z) → T (finite (units f false q k))
 unfolding units
-below-finite f q k z p = go (nat_lt (q * 2 ^ k) (overflow f)) z p
+below_finite f q k z p = go (nat_lt (q * 2 ^ k) (overflow f)) z p
   where
     value : Float
     value = odd (suc (prec f)) false q k (low f)
 
     go : (b : Bool) (z : Float) → T (finite z) → T (le (cond b value (inf false)) z) → T (finite (cond b value (inf false)))
-    go true z p h = has-finite value false (q * 2 ^ k) (2 ^ low f) (odd_sign (suc (prec f)) false q k (low f))
+    go true z p h = has_finite value false (q * 2 ^ k) (2 ^ low f) (odd_sign (suc (prec f)) false q k (low f))
     go false nan p h = absurd p
     go false (inf s) p h = absurd p
     go false (fin s m e) p h = unfold le in h
 
-pub grid-under : (f : Format) (a c : ℕ) (x : Float) → 0 < c → T (fits f x) → T (finite x) → a * den x ≤ num x * c → grid f a c < overflow f
-grid-under f a c x C h p l =
+pub grid_under : (f : Format) (a c : ℕ) (x : Float) → 0 < c → T (fits f x) → T (finite x) → a * den x ≤ num x * c → grid f a c < overflow f
+grid_under f a c x C h p l =
     let z = round f false (num x) (den x) in
-    let Z : T (finite z) = has-finite z false (num x) (den x) (round-representable f false x h p) in
+    let Z : T (finite z) = has_finite z false (num x) (den x) (round_representable f false x h p) in
     round_under f false a c
     (subst (λ (r : Float). T (finite r)) (sym (round_is f false a c))
-    (below-finite f (kept (prec f) (a * 2 ^ low f) c) (drop (prec f) (a * 2 ^ low f) c) z Z
+    (below_finite f (kept (prec f) (a * 2 ^ low f) c) (drop (prec f) (a * 2 ^ low f) c) z Z
     (subst (λ (r : Float). T (le r z)) (round_is f false a c) (round_mono f a c (num x) (den x) C (den_pos x) l))))

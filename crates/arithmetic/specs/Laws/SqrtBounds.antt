@@ -7,43 +7,43 @@ use Rattle.std.specs.Float.{fin, binary64}
 use Rattle.std.specs.Float.Ieee.{fits, mul, round}
 use Rattle.std.specs.Float.Ieee.Scale.{finite, normal_of_fraction}
 use Rattle.std.specs.Float.Ieee.Positive.{num, den, den_pos, positive, positive-finite, positive_of_value, value→cross, first_pos}
-use Rattle.arithmetic.specs.Basic.{isSignMinus}
+use Rattle.arithmetic.specs.Basic.{is_sign_minus}
 use Rattle.arithmetic.specs.Sqrt.{sqrt}
-use Rattle.arithmetic.specs.Laws.Numbers.{four, pow-split}
-use Rattle.arithmetic.specs.Laws.Times.{Times, has-finite, has-sign, of-cross, num-positive}
-use Rattle.arithmetic.specs.Laws.Representable.{representable, grid-under}
-use Rattle.arithmetic.specs.Laws.Sums.{round-finite}
-use Rattle.arithmetic.specs.Laws.Products.{mul_is, mul-times}
-use Rattle.arithmetic.specs.Laws.Sizes.{grain-held, round-minus, round-lower}
-use Rattle.arithmetic.specs.Laws.ScaledRatios.{PositiveNormal, normal-positive, large-cross}
-use Rattle.arithmetic.specs.Laws.SqrtNearest.{NearestRoot, sqrt-is-nearest}
-use Rattle.arithmetic.specs.Laws.SqrtScaling.{sqrt-times}
+use Rattle.arithmetic.specs.Laws.Numbers.{four, pow_split}
+use Rattle.arithmetic.specs.Laws.Times.{Times, has_finite, has_sign, of_cross, num_positive}
+use Rattle.arithmetic.specs.Laws.Representable.{representable, grid_under}
+use Rattle.arithmetic.specs.Laws.Sums.{round_finite}
+use Rattle.arithmetic.specs.Laws.Products.{mul_is, mul_times}
+use Rattle.arithmetic.specs.Laws.Sizes.{grain_held, round_minus, round_lower}
+use Rattle.arithmetic.specs.Laws.ScaledRatios.{PositiveNormal, normal_positive, large_cross}
+use Rattle.arithmetic.specs.Laws.SqrtNearest.{NearestRoot, sqrt_is_nearest}
+use Rattle.arithmetic.specs.Laws.SqrtScaling.{sqrt_times}
 
 -- ---- the root of a finite value above zero
-pub sqrt-finite : (x : Float) → T (positive x) → T (fits binary64 x) → T (finite (sqrt x))
-sqrt-finite x p f = let r = sqrt-is-nearest x p f in has-finite (sqrt x) false (r.q * 2 ^ r.k) (2 ^ 1074) r.root-value
+pub sqrt_finite : (x : Float) → T (positive x) → T (fits binary64 x) → T (finite (sqrt x))
+sqrt_finite x p f = let r = sqrt_is_nearest x p f in has_finite (sqrt x) false (r.q * 2 ^ r.k) (2 ^ 1074) r.root_value
 
-pub sqrt-positive : (x : Float) → T (positive x) → T (fits binary64 x) → T (positive (sqrt x))
-sqrt-positive x p f =
-    let r = sqrt-is-nearest x p f in
-    positive_of_value (sqrt x) (r.q * 2 ^ r.k) (2 ^ 1074) r.root-value (mul-pos (lt_of_lt_of_le (pow_pos 52) r.q-low) (pow_pos r.k))
+pub sqrt_positive : (x : Float) → T (positive x) → T (fits binary64 x) → T (positive (sqrt x))
+sqrt_positive x p f =
+    let r = sqrt_is_nearest x p f in
+    positive_of_value (sqrt x) (r.q * 2 ^ r.k) (2 ^ 1074) r.root_value (mul-pos (lt_of_lt_of_le (pow_pos 52) r.q_low) (pow_pos r.k))
 
 -- the largest root, (2 ^ 53 - 1) * 2 ^ 459, just below 2 ^ 512; and the largest value
-abbrev largestRoot : Float
-largestRoot = fin false 9007199254740991 (pos 459)
+abbrev largest_root : Float
+largest_root = fin false 9007199254740991 (pos 459)
 
 abbrev largest : Float
 largest = fin false 9007199254740991 (pos 971)
 
-square-under : (q : ℕ) → q < 2 ^ 53 → (2 * q + 1) * (2 * q + 1) ≤ 2 ^ 54 * 2 ^ 54
-square-under q h = let g : 2 * q + 1 ≤ 2 ^ 54 = omega arith in mul-le-mul g g
+square_under : (q : ℕ) → q < 2 ^ 53 → (2 * q + 1) * (2 * q + 1) ≤ 2 ^ 54 * 2 ^ 54
+square_under q h = let g : 2 * q + 1 ≤ 2 ^ 54 = omega arith in mul-le-mul g g
 
-exponent-least : (q k a e : ℕ) → q < 2 ^ 53 → 4 * a < (2 * q + 1) * (2 * q + 1) * 4 ^ k → 2 ^ (2 * e + 104) ≤ a → e ≤ k
-exponent-least q k a e Q below lo =
+exponent_least : (q k a e : ℕ) → q < 2 ^ 53 → 4 * a < (2 * q + 1) * (2 * q + 1) * 4 ^ k → 2 ^ (2 * e + 104) ≤ a → e ≤ k
+exponent_least q k a e Q below lo =
     let powers : 2 ^ 54 * 2 ^ 54 * 4 ^ k ≡ 2 ^ (108 + 2 * k) = ap (λ (x : ℕ). 2 ^ 108 * x) (four k) ∙ sym (pow-add 2 108 (2 * k)) in
-    let fourfold : 2 ^ (2 * e + 106) ≡ 4 * 2 ^ (2 * e + 104) = sym (pow-split 2 (2 * e + 104) (2 * e + 106) (omega arith)) in
+    let fourfold : 2 ^ (2 * e + 106) ≡ 4 * 2 ^ (2 * e + 104) = sym (pow_split 2 (2 * e + 104) (2 * e + 106) (omega arith)) in
     let least : 108 + 2 * k ≤ 2 * e + 106 → (2 * q + 1) * (2 * q + 1) * 4 ^ k ≤ 4 * a = λ g.
-    le_trans (mul-le-mul_right (4 ^ k) (square-under q Q))
+    le_trans (mul-le-mul_right (4 ^ k) (square_under q Q))
     (le_trans (le_of_eq powers) (le_trans (pow_mono g) (le_trans (le_of_eq fourfold) (mul-le-mul_left 4 lo)))) in
     half (lt_of_not-le (λ (g : 108 + 2 * k ≤ 2 * e + 106). lt_irrefl (4 * a) (lt_of_lt_of_le below (least g))))
   where
@@ -53,23 +53,23 @@ exponent-least q k a e Q below lo =
 -- x is finite and above zero
 module _ (x : Float) (p : T (positive x)) (F : T (fits binary64 x)) where
   abbrev root : NearestRoot x (sqrt x)
-  root = sqrt-is-nearest x p F
+  root = sqrt_is_nearest x p F
 
   abbrev g : ℕ
   g = root.q * 2 ^ root.k
 
-  root-cross : num (sqrt x) * 2 ^ 1074 ≡ g * den (sqrt x)
-  root-cross = value→cross (sqrt x) g (2 ^ 1074) root.root-value
+  root_cross : num (sqrt x) * 2 ^ 1074 ≡ g * den (sqrt x)
+  root_cross = value→cross (sqrt x) g (2 ^ 1074) root.root_value
 
-  root-sign : isSignMinus (sqrt x) ≡ false
-  root-sign = has-sign (sqrt x) false g (2 ^ 1074) root.root-value
+  root_sign : is_sign_minus (sqrt x) ≡ false
+  root_sign = has_sign (sqrt x) false g (2 ^ 1074) root.root_value
 
   -- what is 2 ^ (2 e + 104) units of 2 ^ -2148 at least has a root of 2 ^ (52 + e) units of 2 ^ -1074 at least
-  root-reaches : (e : ℕ) → 2 ^ (2 * e + 104) ≤ root.a → 2 ^ 52 * 2 ^ e ≤ g
-  root-reaches e l = mul-le-mul root.q-low (pow_mono (exponent-least root.q root.k root.a e root.q-high root.below l))
+  root_reaches : (e : ℕ) → 2 ^ (2 * e + 104) ≤ root.a → 2 ^ 52 * 2 ^ e ≤ g
+  root_reaches e l = mul-le-mul root.q_low (pow_mono (exponent_least root.q root.k root.a e root.q_high root.below l))
 
-  root-most : num (sqrt x) * den largestRoot ≤ num largestRoot * den (sqrt x)
-  root-most = highest (num (sqrt x)) (den (sqrt x)) g root-cross (mul-le-mul (le_of_suc-le-suc root.q-high) (pow_mono (le_of_suc-le-suc root.k_lt)))
+  root_most : num (sqrt x) * den largest_root ≤ num largest_root * den (sqrt x)
+  root_most = highest (num (sqrt x)) (den (sqrt x)) g root_cross (mul-le-mul (le_of_suc-le-suc root.q_high) (pow_mono (le_of_suc-le-suc root.k_lt)))
     where
       highest : (n d g : ℕ) → n * 2 ^ 1074 ≡ g * d → g ≤ 9007199254740991 * 2 ^ 1533 → n * 1 ≤ 9007199254740991 * 2 ^ 459 * d
       highest n d g e h =
@@ -79,8 +79,8 @@ module _ (x : Float) (p : T (positive x)) (F : T (fits binary64 x)) where
           (pow_pos 1074)
 
   -- 2 ^ -537, whose square is the smallest value
-  root-least : den (sqrt x) ≤ num (sqrt x) * 2 ^ 537
-  root-least = lowest (num (sqrt x)) (den (sqrt x)) g root-cross (root-reaches 485 units)
+  root_least : den (sqrt x) ≤ num (sqrt x) * 2 ^ 537
+  root_least = lowest (num (sqrt x)) (den (sqrt x)) g root_cross (root_reaches 485 units)
     where
       some : (n d a w U : ℕ) → 0 < d → n * (U * U) ≡ a * d → n * U ≡ w * d → 0 < w → U ≤ a
       some n d a w U D e g h =
@@ -94,7 +94,7 @@ module _ (x : Float) (p : T (positive x)) (F : T (fits binary64 x)) where
           let o = representable binary64 x F (positive-finite x p) in
           let n = o.digits * 2 ^ o.place in
           some (num x) (den x) root.a n (2 ^ 1074) (den_pos x) (value→cross x root.a (2 ^ 2148) root.value) o.exact
-          (first_pos n (den x) (subst (λ (z : ℕ). 0 < z) o.exact (mul-pos (num-positive x p) (pow_pos 1074))))
+          (first_pos n (den x) (subst (λ (z : ℕ). 0 < z) o.exact (mul-pos (num_positive x p) (pow_pos 1074))))
 
       lowest : (n d g : ℕ) → n * 2 ^ 1074 ≡ g * d → 2 ^ 537 ≤ g → d ≤ n * 2 ^ 537
       lowest n d g e h =
@@ -104,13 +104,13 @@ module _ (x : Float) (p : T (positive x)) (F : T (fits binary64 x)) where
           (pow_pos 537)
 
 -- ---- the root of a normal value above zero: 2 ^ 1126 units of 2 ^ -2148 are 2 ^ -1022
-normal-root-least : (x : Float) → PositiveNormal x → den (sqrt x) ≤ num (sqrt x) * 2 ^ 511
-normal-root-least x o =
-    let p = normal-positive x o in
-    let r = sqrt-is-nearest x p o.held in
+normal_root_least : (x : Float) → PositiveNormal x → den (sqrt x) ≤ num (sqrt x) * 2 ^ 511
+normal_root_least x o =
+    let p = normal_positive x o in
+    let r = sqrt_is_nearest x p o.held in
     let g = r.q * 2 ^ r.k in
-    let a : 2 ^ 1126 ≤ r.a = large (num x) (den x) r.a (den_pos x) (value→cross x r.a (2 ^ 2148) r.value) (large-cross x o) in
-    lowest (num (sqrt x)) (den (sqrt x)) g (root-cross x p o.held) (root-reaches x p o.held 511 a)
+    let a : 2 ^ 1126 ≤ r.a = large (num x) (den x) r.a (den_pos x) (value→cross x r.a (2 ^ 2148) r.value) (large_cross x o) in
+    lowest (num (sqrt x)) (den (sqrt x)) g (root_cross x p o.held) (root_reaches x p o.held 511 a)
   where
     large : (n d a : ℕ) → 0 < d → n * 2 ^ 2148 ≡ a * d → d ≤ n * 2 ^ 1022 → 2 ^ 1126 ≤ a
     large n d a D e h =
@@ -123,25 +123,25 @@ normal-root-least x o =
         (le_trans (mul-le-mul_right d h) (le_of_eq (sym e ∙ sym (mul_assoc n (2 ^ 511) (2 ^ 563))))))
         (pow_pos 563)
 
-root-times : (k : ℕ) (x y : Float) → PositiveNormal x → Times (k + k) x y → Times k (sqrt x) (sqrt y)
-root-times k x y o h = sqrt-times k x y (normal-positive x o) o.held h
+root_times : (k : ℕ) (x y : Float) → PositiveNormal x → Times (k + k) x y → Times k (sqrt x) (sqrt y)
+root_times k x y o h = sqrt_times k x y (normal_positive x o) o.held h
 
 -- ---- the product of two roots
-square-low : (na da nb db Q : ℕ) → da ≤ na * Q → db ≤ nb * Q → da * db ≤ na * nb * (Q * Q)
-square-low na da nb db Q h g = le_trans (mul-le-mul h g) (le_of_eq (mul-mul-mul_comm na Q nb Q))
+square_low : (na da nb db Q : ℕ) → da ≤ na * Q → db ≤ nb * Q → da * db ≤ na * nb * (Q * Q)
+square_low na da nb db Q h g = le_trans (mul-le-mul h g) (le_of_eq (mul-mul-mul_comm na Q nb Q))
 
-square-high : (na da nb db M N : ℕ) → na * 1 ≤ M * da → nb * 1 ≤ M * db → M * M ≤ N → na * nb * 1 ≤ N * (da * db)
-square-high na da nb db M N h g l =
+square_high : (na da nb db M N : ℕ) → na * 1 ≤ M * da → nb * 1 ≤ M * db → M * M ≤ N → na * nb * 1 ≤ N * (da * db)
+square_high na da nb db M N h g l =
     le_trans (le_of_eq (mul-one (na * nb)))
     (le_trans (mul-le-mul (le_trans (le_of_eq (sym (mul-one na))) h) (le_trans (le_of_eq (sym (mul-one nb))) g))
     (le_trans (le_of_eq (mul-mul-mul_comm M da M db)) (mul-le-mul_right (da * db) l)))
 
-largest-fits : T (fits binary64 largest)
+largest_fits : T (fits binary64 largest)
 unfolding fits
-largest-fits = tt
+largest_fits = tt
 
-product-low : (f k : Float) → PositiveNormal f → PositiveNormal k → den (sqrt f) * den (sqrt k) ≤ num (sqrt f) * num (sqrt k) * 2 ^ 1022
-product-low f k o q = square-low (num (sqrt f)) (den (sqrt f)) (num (sqrt k)) (den (sqrt k)) (2 ^ 511) (normal-root-least f o) (normal-root-least k q)
+product_low : (f k : Float) → PositiveNormal f → PositiveNormal k → den (sqrt f) * den (sqrt k) ≤ num (sqrt f) * num (sqrt k) * 2 ^ 1022
+product_low f k o q = square_low (num (sqrt f)) (den (sqrt f)) (num (sqrt k)) (den (sqrt k)) (2 ^ 511) (normal_root_least f o) (normal_root_least k q)
 
 module _ (f k : Float) (p : T (positive f)) (F : T (fits binary64 f)) (q : T (positive k)) (G : T (fits binary64 k)) where
   abbrev a : Float
@@ -151,39 +151,39 @@ module _ (f k : Float) (p : T (positive f)) (F : T (fits binary64 f)) (q : T (po
   b = sqrt k
 
   product_is : mul binary64 a b ≡ round binary64 false (num a * num b) (den a * den b)
-  product_is = mul_is binary64 a b (sqrt-finite f p F) (sqrt-finite k q G) ∙ rw (root-sign f p F, root-sign k q G)
+  product_is = mul_is binary64 a b (sqrt_finite f p F) (sqrt_finite k q G) ∙ rw (root_sign f p F, root_sign k q G)
 
   C : 0 < den a * den b
   C = mul-pos (den_pos a) (den_pos b)
 
-  rounded-finite : T (finite (round binary64 false (num a * num b) (den a * den b)))
-  rounded-finite =
-      round-finite binary64 false (num a * num b) (den a * den b)
-      (grid-under binary64 (num a * num b) (den a * den b) largest C largest-fits tt
-      (square-high (num a) (den a) (num b) (den b) (num largestRoot) (num largest) (root-most f p F) (root-most k q G) (lit≤ tt)))
+  rounded_finite : T (finite (round binary64 false (num a * num b) (den a * den b)))
+  rounded_finite =
+      round_finite binary64 false (num a * num b) (den a * den b)
+      (grid_under binary64 (num a * num b) (den a * den b) largest C largest_fits tt
+      (square_high (num a) (den a) (num b) (den b) (num largest_root) (num largest) (root_most f p F) (root_most k q G) (lit≤ tt)))
 
-  roots-finite : T (finite (mul binary64 a b))
-  roots-finite = subst (λ (z : Float). T (finite z)) (sym product_is) rounded-finite
+  roots_finite : T (finite (mul binary64 a b))
+  roots_finite = subst (λ (z : Float). T (finite z)) (sym product_is) rounded_finite
 
   -- the product is the smallest value at least
-  pub roots-positive : T (positive (mul binary64 a b))
-  roots-positive =
+  pub roots_positive : T (positive (mul binary64 a b))
+  roots_positive =
       let r = round binary64 false (num a * num b) (den a * den b) in
       let l : 1 * den r ≤ num r * 2 ^ 1074 =
-      round-lower false (num a * num b) (den a * den b) 1 (2 ^ 1074) C (pow_pos 1074) (grain-held 1 1074 (lit≤ tt) (lit≤ tt)) rounded-finite
+      round_lower false (num a * num b) (den a * den b) 1 (2 ^ 1074) C (pow_pos 1074) (grain_held 1 1074 (lit≤ tt) (lit≤ tt)) rounded_finite
       (le_trans (le_of_eq (one-mul (den a * den b)))
-      (square-low (num a) (den a) (num b) (den b) (2 ^ 537) (root-least f p F) (root-least k q G))) in
+      (square_low (num a) (den a) (num b) (den b) (2 ^ 537) (root_least f p F) (root_least k q G))) in
       subst (λ (z : Float). T (positive z)) (sym product_is)
-      (positive_of_value r (num r) (den r) (of-cross r false (num r) (den r) rounded-finite (round-minus false (num a * num b) (den a * den b)) refl)
+      (positive_of_value r (num r) (den r) (of_cross r false (num r) (den r) rounded_finite (round_minus false (num a * num b) (den a * den b)) refl)
       (first_pos (num r) (2 ^ 1074) (lt_of_lt_of_le (mul-pos (pow_pos 0) (den_pos r)) l)))
 
-pub roots-times : (n : ℕ) (f k f' k' : Float) → PositiveNormal f → PositiveNormal k → PositiveNormal f' → PositiveNormal k'
+pub roots_times : (n : ℕ) (f k f' k' : Float) → PositiveNormal f → PositiveNormal k → PositiveNormal f' → PositiveNormal k'
     → Times (n + n) f f' → Times (n + n) k k'
     → Times (n + n) (mul binary64 (sqrt f) (sqrt k)) (mul binary64 (sqrt f') (sqrt k'))
-roots-times n f k f' k' o q o' q' h g =
+roots_times n f k f' k' o q o' q' h g =
     let A = num (sqrt f) * num (sqrt k) in
     let C = den (sqrt f) * den (sqrt k) in
-    mul-times binary64 n n (sqrt f) (sqrt k) (sqrt f') (sqrt k') (root-times n f f' o h) (root-times n k k' q g)
+    mul_times binary64 n n (sqrt f) (sqrt k) (sqrt f') (sqrt k') (root_times n f f' o h) (root_times n k k' q g)
     (inl (normal_of_fraction binary64 A C (mul-pos (den_pos (sqrt f)) (den_pos (sqrt k)))
-    (le_trans (mul-le-mul_left (2 ^ 52) (product-low f k o q)) (le_of_eq (mul_left_comm (2 ^ 52) A (2 ^ 1022))))))
-    (roots-finite f' k' (normal-positive f' o') o'.held (normal-positive k' q') q'.held)
+    (le_trans (mul-le-mul_left (2 ^ 52) (product_low f k o q)) (le_of_eq (mul_left_comm (2 ^ 52) A (2 ^ 1022))))))
+    (roots_finite f' k' (normal_positive f' o') o'.held (normal_positive k' q') q'.held)

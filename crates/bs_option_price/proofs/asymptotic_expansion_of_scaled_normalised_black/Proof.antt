@@ -1,12 +1,12 @@
 -- `asymptotic_expansion_of_scaled_normalised_black` meets its contract: what each call ensures is the definition's. Assumes nothing.
-use Rattle.bs_option_price.specs.BsOptionPrice.{asymptoticExpansionOfScaledNormalisedBlack}
+use Rattle.bs_option_price.specs.BsOptionPrice.{asymptotic_expansion_of_scaled_normalised_black}
 use Rattle.bs_option_price.proofs.asymptotic_expansion_of_scaled_normalised_black.Tie as tie
 use Rattle.bs_option_price.proofs.asymptotic_expansion_of_scaled_normalised_black.Statement.{
   statement,
 }
 
 returns : tie.Need-returns
-unfolding asymptoticExpansionOfScaledNormalisedBlack
+unfolding asymptotic_expansion_of_scaled_normalised_black
 returns c =
     let after_IsTail = c.before in
     let after-position = after_IsTail.before in

@@ -3,15 +3,15 @@ use mathlib.Core.Path.{◌≡◌, sym, ◌∙◌}
 use mathlib.Core.Bool.{false, ◌||◌}
 use mathlib.Core.Logic.{⊎_elim}
 use lib.Ieee.{eq}
-use Rattle.arithmetic.specs.Operations.{plusZero}
-use Rattle.arithmetic.specs.Basic.{isInfinite}
-use Rattle.bs_option_price.specs.BsOptionPrice.{isRegion1, normalisedBlack}
+use Rattle.arithmetic.specs.Operations.{plus_zero}
+use Rattle.arithmetic.specs.Basic.{is_infinite}
+use Rattle.bs_option_price.specs.BsOptionPrice.{is_region1, normalised_black}
 use Rattle.bs_option_price.proofs.normalised_black.Tie as tie
 use Rattle.bs_option_price.proofs.normalised_black.Statement.{statement}
 
 -- past the first return t is not 0 and h is finite
 not-at-once : (c : tie.Else2) → let at_zero = c.before.before in
-    (eq at_zero.before.args.t plusZero || isInfinite at_zero.before.args.h) ≡ false
+    (eq at_zero.before.args.t plus_zero || is_infinite at_zero.before.args.h) ≡ false
 not-at-once c =
     let after-is-infinite = c.before in
     rw (after-is-infinite.before.if1.false, ← after-is-infinite.is-infinite.ensures, c.if2.false)
@@ -19,16 +19,16 @@ not-at-once c =
 -- past the second return the asymptotic expansion does not answer
 not-region1 : (c : tie.Else3) → let at-infinite = c.before.before in
     let at_zero = at-infinite.before.before in
-    isRegion1 at_zero.before.args.h at_zero.before.args.t ≡ false
+    is_region1 at_zero.before.args.h at_zero.before.args.t ≡ false
 not-region1 c = sym c.before.is-region1.ensures ∙ c.if3.false
 
 returns : tie.Need-returns
-unfolding normalisedBlack
+unfolding normalised_black
 returns c =
     ⊎_elim (λ w. rw w.taken) (λ w. rw (w.0.left, ← w.1.ensures, w.2.taken)) c.if1.branch
 
 returns-2 : tie.Need-returns-2
-unfolding normalisedBlack
+unfolding normalised_black
 returns-2 c =
     let at-region1 = c.before.before in
     let after-is-region1 = at-region1.before in
@@ -41,7 +41,7 @@ returns-2 c =
     )
 
 returns-3 : tie.Need-returns-3
-unfolding normalisedBlack
+unfolding normalised_black
 returns-3 c =
     let at-region2 = c.before.before in
     let after-is-region2 = at-region2.before in
@@ -56,7 +56,7 @@ returns-3 c =
     )
 
 returns-4 : tie.Need-returns-4
-unfolding normalisedBlack
+unfolding normalised_black
 returns-4 c =
     let after-is-region2 = c.before.before in
     let at-region1 = after-is-region2.before in

@@ -5,13 +5,13 @@ use native.Mathlib.Omega.{arith}
 use native.Mathlib.Nat.{zero-add}
 use borrow.Author.Rules.{rules}
 use lib.ListN.{drop}
-use Rattle.bs_option_price.specs.BsOptionPrice.{position, thresholds, firstAbove}
+use Rattle.bs_option_price.specs.BsOptionPrice.{position, thresholds, first_above}
 use Rattle.bs_option_price.proofs.Thresholds.{found, one_more, none}
 use Rattle.bs_option_price.proofs.position.Tie as tie
 use Rattle.bs_option_price.proofs.position.Statement.{statement}
 
 abbrev invariant-loop : tie.invariant-loop
-invariant-loop value thresholds i₀ i = (i ≤ 12) × (i + firstAbove value (drop i thresholds) ≡ position value)
+invariant-loop value thresholds i₀ i = (i ≤ 12) × (i + first_above value (drop i thresholds) ≡ position value)
 
 abbrev decreases-loop : tie.decreases-loop
 decreases-loop value thresholds i₀ i = 12 - i

@@ -1,13 +1,13 @@
 -- `small_t_expansion_of_scaled_normalised_black` meets its contract: what each call ensures is the definition's. Assumes nothing.
 use borrow.Author.Rules.{rules}
-use Rattle.bs_option_price.specs.BsOptionPrice.{smallTExpansionOfScaledNormalisedBlack}
+use Rattle.bs_option_price.specs.BsOptionPrice.{small_t_expansion_of_scaled_normalised_black}
 use Rattle.bs_option_price.proofs.small_t_expansion_of_scaled_normalised_black.Tie as tie
 use Rattle.bs_option_price.proofs.small_t_expansion_of_scaled_normalised_black.Statement.{
   statement,
 }
 
 returns : tie.Need-returns
-unfolding smallTExpansionOfScaledNormalisedBlack
+unfolding small_t_expansion_of_scaled_normalised_black
 returns c =
     let after-b0 = c.before.before in
     let after-b1 = after-b0.before in

@@ -2,14 +2,14 @@
 use mathlib.Core.Path.{ap, ◌∙◌}
 use borrow.Author.Rules.{rules}
 use borrow.Author.Tests.{le-leb, lt-leb}
-use Rattle.arithmetic.specs.Basic.{mulAdd2Sel}
+use Rattle.arithmetic.specs.Basic.{mul_add2_sel}
 use Rattle.bs_option_price.specs.BsOptionPrice.{term}
 use Rattle.bs_option_price.proofs.term.Statement.{statement}
 use Rattle.bs_option_price.proofs.term.Tie as tie
 
 returns : tie.Need-returns
 unfolding term
-returns c = rw (le-leb _ _ c.before.before.if1.true) (c.mul-add2-sel.ensures ∙ ap (mulAdd2Sel _ _) c.before.a.ensures)
+returns c = rw (le-leb _ _ c.before.before.if1.true) (c.mul-add2-sel.ensures ∙ ap (mul_add2_sel _ _) c.before.a.ensures)
 
 returns-2 : tie.Need-returns-2
 unfolding term

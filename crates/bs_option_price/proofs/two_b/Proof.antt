@@ -1,10 +1,10 @@
 -- `two_b` meets its contract: the tests that led to each return pick the definition's case. Assumes nothing.
-use Rattle.bs_option_price.specs.BsOptionPrice.{twoB}
+use Rattle.bs_option_price.specs.BsOptionPrice.{two_b}
 use Rattle.bs_option_price.proofs.two_b.Tie as tie
 use Rattle.bs_option_price.proofs.two_b.Statement.{statement}
 
 returns : tie.Need-returns
-unfolding twoB
+unfolding two_b
 returns c =
     let after-exp-2 = c.before.before in
     let after-exp-1 = after-exp-2.before.before in
@@ -20,7 +20,7 @@ returns c =
     )
 
 returns-2 : tie.Need-returns-2
-unfolding twoB
+unfolding two_b
 returns-2 c =
     let after-erfc = c.before.before in
     let at-q2 = after-erfc.before.before in
@@ -34,7 +34,7 @@ returns-2 c =
     )
 
 returns-3 : tie.Need-returns-3
-unfolding twoB
+unfolding two_b
 returns-3 c =
     let after-exp = c.before.before in
     let after-erfcx = after-exp.before in
@@ -49,7 +49,7 @@ returns-3 c =
     )
 
 returns-4 : tie.Need-returns-4
-unfolding twoB
+unfolding two_b
 returns-4 c =
     let at-q2 = c.before.before in
     rw (c.erfcx-cody4.ensures, c.before.erfcx-cody3.ensures, at-q2.if3.false, at-q2.before.if1.false)

@@ -1,11 +1,11 @@
 -- `y_prime_middle` meets its contract: what each call ensures is the definition's. Assumes nothing.
 use borrow.Author.Rules.{rules}
-use Rattle.bs_option_price.specs.BsOptionPrice.{yPrimeMiddle}
+use Rattle.bs_option_price.specs.BsOptionPrice.{y_prime_middle}
 use Rattle.bs_option_price.proofs.y_prime_middle.Tie as tie
 use Rattle.bs_option_price.proofs.y_prime_middle.Statement.{statement}
 
 returns : tie.Need-returns
-unfolding yPrimeMiddle
+unfolding y_prime_middle
 returns c =
     let after-sum-2 = c.before.before in
     let after-evaluate-1 = after-sum-2.before in

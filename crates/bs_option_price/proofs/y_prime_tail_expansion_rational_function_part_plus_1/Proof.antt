@@ -1,13 +1,13 @@
 -- `y_prime_tail_expansion_rational_function_part_plus_1` meets its contract: what each call ensures is the definition's. Assumes nothing.
 use borrow.Author.Rules.{rules}
-use Rattle.bs_option_price.specs.BsOptionPrice.{yPrimeTailExpansionRationalFunctionPartPlus1}
+use Rattle.bs_option_price.specs.BsOptionPrice.{y_prime_tail_expansion_rational_function_part_plus1}
 use Rattle.bs_option_price.proofs.y_prime_tail_expansion_rational_function_part_plus_1.Tie as tie
 use Rattle.bs_option_price.proofs.y_prime_tail_expansion_rational_function_part_plus_1.Statement.{
   statement,
 }
 
 returns : tie.Need-returns
-unfolding yPrimeTailExpansionRationalFunctionPartPlus1
+unfolding y_prime_tail_expansion_rational_function_part_plus1
 returns c = rw (
   c.mul-add2-sel.ensures,
   c.before.rational.ensures,

@@ -2,9 +2,9 @@
 use Rattle.std.specs.Prelude.{◌≡◌, refl}
 use Rattle.std.specs.Float.Ieee.{of_bits, mul}
 use Rattle.arithmetic.specs.Operations.{◌⊗◌, two}
-use Rattle.special_function.specs.Constants.{sixteenthRootDblEpsilon}
+use Rattle.special_function.specs.Constants.{sixteenth_root_dbl_epsilon}
 use Rattle.bs_option_price.specs.BsOptionPrice.{tau}
 
-pub tau-is : two ⊗ sixteenthRootDblEpsilon ≡ tau
+pub tau_is : two ⊗ sixteenth_root_dbl_epsilon ≡ tau
 unfolding mul of_bits
-tau-is = refl
+tau_is = refl

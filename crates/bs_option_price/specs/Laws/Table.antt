@@ -3,11 +3,11 @@
 use Rattle.std.specs.Prelude.{◌≡◌, refl, Bool, true, ◌&&◌, ℕ, zero, suc, ◌<◌, ◌≤◌, T, eqb, length}
 use Rattle.std.proofs.Common.{le_of_suc-le-suc, not-suc-le-zero, arith, eqb→eq}
 use Rattle.std.specs.Float.Ieee.Fits.{and_l, and_r}
-use Rattle.bs_option_price.specs.Table.{patterns, followsRule, entry, nearestEntry}
+use Rattle.bs_option_price.specs.Table.{patterns, follows_rule, entry, nearest_entry}
 
-pub table-has-153-entries : length patterns ≡ 153
+pub table_has_153_entries : length patterns ≡ 153
 unfolding patterns
-table-has-153-entries = refl
+table_has_153_entries = refl
 
 -- ---- a test at every entry
 
@@ -24,33 +24,33 @@ at_each (suc n) test t (suc i) h =
     at_each n (λ j. test (suc j)) (and_r (test 0) (all_below n (λ j. test (suc j))) t) i (le_of_suc-le-suc h)
 
 -- the test passes at the coefficient of e ^ j in ak for each k below 17 and each j up to k
-unfoldable allEntries : (ℕ → ℕ → Bool) → Bool
+unfoldable all_entries : (ℕ → ℕ → Bool) → Bool
 unfolding all_below
-allEntries test = all_below 17 (λ k. all_below (suc k) (test k))
+all_entries test = all_below 17 (λ k. all_below (suc k) (test k))
 
-at_entry : (test : ℕ → ℕ → Bool) → T (allEntries test) → (k j : ℕ) → k < 17 → j ≤ k → T (test k j)
-unfolding allEntries
+at_entry : (test : ℕ → ℕ → Bool) → T (all_entries test) → (k j : ℕ) → k < 17 → j ≤ k → T (test k j)
+unfolding all_entries
 at_entry test t k j k<17 j≤k =
     at_each (suc k) (test k) (at_each 17 (λ i. all_below (suc i) (test i)) t k k<17) j (omega arith)
 
 -- ---- the rule
 
-all-follow-rule : T (allEntries followsRule)
-unfolding allEntries followsRule
-all-follow-rule = tt
+all_follow_rule : T (all_entries follows_rule)
+unfolding all_entries follows_rule
+all_follow_rule = tt
 
 -- the coefficient of e ^ j in ak follows the rule
-pub coefficient-follows-rule : (k j : ℕ) → k < 17 → j ≤ k → T (followsRule k j)
-coefficient-follows-rule = at_entry followsRule all-follow-rule
+pub coefficient_follows_rule : (k j : ℕ) → k < 17 → j ≤ k → T (follows_rule k j)
+coefficient_follows_rule = at_entry follows_rule all_follow_rule
 
 -- ---- more than REQUIREMENTS 9 asks: each entry is the binary64 nearest to the exact coefficient
 
-abbrev isNearest : ℕ → ℕ → Bool
-isNearest k j = eqb (entry k j) (nearestEntry k j)
+abbrev is_nearest : ℕ → ℕ → Bool
+is_nearest k j = eqb (entry k j) (nearest_entry k j)
 
-all-nearest : T (allEntries isNearest)
-unfolding allEntries entry nearestEntry
-all-nearest = tt
+all_nearest : T (all_entries is_nearest)
+unfolding all_entries entry nearest_entry
+all_nearest = tt
 
-pub entry-is-nearest : (k j : ℕ) → k < 17 → j ≤ k → entry k j ≡ nearestEntry k j
-entry-is-nearest k j k<17 j≤k = eqb→eq (entry k j) (nearestEntry k j) (at_entry isNearest all-nearest k j k<17 j≤k)
+pub entry_is_nearest : (k j : ℕ) → k < 17 → j ≤ k → entry k j ≡ nearest_entry k j
+entry_is_nearest k j k<17 j≤k = eqb→eq (entry k j) (nearest_entry k j) (at_entry is_nearest all_nearest k j k<17 j≤k)

@@ -5,9 +5,9 @@ use Rattle.std.specs.Float.{binary64}
 use Rattle.std.specs.Float.Ieee.Bits.{of_bits-fits}
 use Rattle.explicit_black.specs.Quote.{Reply, answer, refusal}
 use Rattle.explicit_black.specs.Demand.{compared}
-use Rattle.explicit_black.specs.Laws.Quote.{Facts, FiguresAreNumbers, input-facts, input-numbers}
+use Rattle.explicit_black.specs.Laws.Quote.{Facts, FiguresAreNumbers, input_facts, input_numbers}
 use Rattle.xdr_sheet.specs.Xdr.{hyper, double}
-use Rattle.cable_window.specs.Window.{timeAt, windowReply}
+use Rattle.cable_window.specs.Window.{time_at, window_reply}
 
 abbrev pub ReplyFits : Reply → Type 0
 ReplyFits (answer total volatility count) = count < 2 ^ 32
@@ -17,10 +17,10 @@ fits : (r : Reply) → Facts (compared r) → ReplyFits r
 fits (answer total volatility count) h = omega (arith, h.few)
 fits (refusal number count) h = (omega (arith, (h.numbered number refl).1), omega (arith, h.few))
 
-pub reply-fits : (s : List ℕ) → ReplyFits (windowReply s)
-unfolding windowReply
-reply-fits s = fits (windowReply s) (input-facts _ _ _ _ _)
+pub reply_fits : (s : List ℕ) → ReplyFits (window_reply s)
+unfolding window_reply
+reply_fits s = fits (window_reply s) (input_facts _ _ _ _ _)
 
-pub reply-numbers : (s : List ℕ) → FiguresAreNumbers (windowReply s)
-unfolding windowReply double
-reply-numbers s = input-numbers _ _ _ _ _ (of_bits-fits binary64 (hyper s timeAt))
+pub reply_numbers : (s : List ℕ) → FiguresAreNumbers (window_reply s)
+unfolding window_reply double
+reply_numbers s = input_numbers _ _ _ _ _ (of_bits-fits binary64 (hyper s time_at))

@@ -11,108 +11,108 @@ use Rattle.std.specs.Float.Ieee.Fits.{sub-fits, and_l}
 use Rattle.std.specs.Float.Ieee.Bits.{is_true, of_bits-fits}
 use Rattle.std.specs.Float.Ieee.Scale.{finite}
 use Rattle.std.specs.Float.Ieee.Positive.{num, den, den_pos}
-use Rattle.arithmetic.specs.Operations.{◌⊖◌, ◌⊗◌, bits, plusZero}
-use Rattle.arithmetic.specs.Basic.{isSignMinus}
+use Rattle.arithmetic.specs.Operations.{◌⊖◌, ◌⊗◌, bits, plus_zero}
+use Rattle.arithmetic.specs.Basic.{is_sign_minus}
 use Rattle.arithmetic.specs.Sqrt.{sqrt}
-use Rattle.arithmetic.specs.Laws.Numbers.{four-square, four-pos}
+use Rattle.arithmetic.specs.Laws.Numbers.{four_square, four_pos}
 use Rattle.arithmetic.specs.Laws.Times.{Times}
-use Rattle.arithmetic.specs.Laws.Compare.{lt-is}
-use Rattle.arithmetic.specs.Laws.Sums.{sub-times, sub-finite}
-use Rattle.arithmetic.specs.Laws.Identities.{mul-swap}
-use Rattle.arithmetic.specs.Laws.Extremes.{times_zero, times-refl}
-use Rattle.arithmetic.specs.Laws.ScaledRatios.{PositiveNormal, plus, num-above}
-use Rattle.arithmetic.specs.Laws.SqrtBounds.{roots-times}
+use Rattle.arithmetic.specs.Laws.Compare.{lt_is}
+use Rattle.arithmetic.specs.Laws.Sums.{sub_times, sub_finite}
+use Rattle.arithmetic.specs.Laws.Identities.{mul_swap}
+use Rattle.arithmetic.specs.Laws.Extremes.{times_zero, times_refl}
+use Rattle.arithmetic.specs.Laws.ScaledRatios.{PositiveNormal, plus, num_above}
+use Rattle.arithmetic.specs.Laws.SqrtBounds.{roots_times}
 use Rattle.arithmetic.specs.Laws.Choices.{refuted}
-use Rattle.arithmetic.specs.Laws.Zeros.{zero_of, plusZero-is, zero-by-sign}
-use Rattle.bs_option_price.specs.BsOptionPrice.{negativeAbsLogMoneyness}
-use Rattle.bs_option_price.specs.Laws.Moneyness.{BoundedRatio, log-times, log-swap}
+use Rattle.arithmetic.specs.Laws.Zeros.{zero_of, plus_zero_is, zero_by_sign}
+use Rattle.bs_option_price.specs.BsOptionPrice.{negative_abs_log_moneyness}
+use Rattle.bs_option_price.specs.Laws.Moneyness.{BoundedRatio, log_times, log_swap}
 use Rattle.inverse_gaussian.specs.Counted.{Counted, at_once}
-use Rattle.explicit_black.specs.Quote.{Outcome, refused, firstRefusal, fromPrice, fromQuote, impliedBlackVolatilityInput}
+use Rattle.explicit_black.specs.Quote.{Outcome, refused, first_refusal, from_price, from_quote, implied_black_volatility_input}
 use Rattle.explicit_black.specs.Demand.{Exactly, ComparablePair, ComparableFigures, ComparableTimes, compared}
-use Rattle.explicit_black.specs.Laws.ScaledPrice.{Plain, from-price-times}
-use Rattle.explicit_black.specs.Laws.Quote.{compared-input}
-use Rattle.explicit_black.specs.Laws.ZeroPrice.{zero-from-price}
-use Rattle.explicit_black.specs.Laws.Powers.{comparable-pair, comparable, four-times}
+use Rattle.explicit_black.specs.Laws.ScaledPrice.{Plain, from_price_times}
+use Rattle.explicit_black.specs.Laws.Quote.{compared_input}
+use Rattle.explicit_black.specs.Laws.ZeroPrice.{zero_from_price}
+use Rattle.explicit_black.specs.Laws.Powers.{comparable_pair, comparable, four_times}
 
 -- ---- times: both zero, or both finite and above zero
 
 -- a time that passes tests 2 and 4, and whether it is zero
 pub record TimeTested (t : Float) (z : Bool) : Type 0 where
-  pub finite-time : finite t ≡ true
-  pub no_less : lt t plusZero ≡ false
-  pub is_zero : eq t plusZero ≡ z
+  pub finite_time : finite t ≡ true
+  pub no_less : lt t plus_zero ≡ false
+  pub is_zero : eq t plus_zero ≡ z
 
 -- no zero is below 0
-not-below : (s : Bool) (a b c : ℕ) → a ≡ b → b ≡ 0 * c → T (below s a false b) → ⊥
-not-below false a b c e g t = let l = ltb→lt a b t in omega arith
-not-below true a b c e g t = let l = ltb→lt 0 (a + b) t in omega (arith, zero-mul c)
+not_below : (s : Bool) (a b c : ℕ) → a ≡ b → b ≡ 0 * c → T (below s a false b) → ⊥
+not_below false a b c e g t = let l = ltb→lt a b t in omega arith
+not_below true a b c e g t = let l = ltb→lt 0 (a + b) t in omega (arith, zero-mul c)
 
-zero-time : (t : Float) → T (eq t plusZero) → TimeTested t true
+zero_time : (t : Float) → T (eq t plus_zero) → TimeTested t true
 unfolding eq lt of_bits
-zero-time nan h = absurd h
-zero-time (inf s) h = absurd h
-zero-time (fin s m e) h =
+zero_time nan h = absurd h
+zero_time (inf s) h = absurd h
+zero_time (fin s m e) h =
     let a = m * up e * 1 in
     let b = 0 * down e in
     let same : a ≡ b = eqb→eq a b (and_l (eqb a b) (beq s false || eqb a 0) h) in
     record {
-      finite-time = refl;
-      no_less = refuted (below s a false b) (not-below s a b (down e) same refl);
+      finite_time = refl;
+      no_less = refuted (below s a false b) (not_below s a b (down e) same refl);
       is_zero = is_true (level s a false b) h;
     }
 
-positive-time : (t : Float) → T (finite t) → T (lt plusZero t) → TimeTested t false
+positive_time : (t : Float) → T (finite t) → T (lt plus_zero t) → TimeTested t false
 unfolding eq lt of_bits
-positive-time nan p h = absurd p
-positive-time (inf s) p h = absurd p
-positive-time (fin true m e) p h = absurd h
-positive-time (fin false m e) p h =
+positive_time nan p h = absurd p
+positive_time (inf s) p h = absurd p
+positive_time (fin true m e) p h = absurd h
+positive_time (fin false m e) p h =
     let a = m * up e * 1 in
     let b = 0 * down e in
     let above : b < a = ltb→lt b a h in
     record {
-      finite-time = refl;
+      finite_time = refl;
       no_less = refuted (ltb a b) (λ u. lt_back b a above (ltb→lt a b u));
-      is_zero = refuted (level false a false b) (λ u. lt-self b a (sym (eqb→eq a b (and_l (eqb a b) true u))) above);
+      is_zero = refuted (level false a false b) (λ u. lt_self b a (sym (eqb→eq a b (and_l (eqb a b) true u))) above);
     }
   where
-    lt-self : (a b : ℕ) → a ≡ b → a < b → ⊥
-    lt-self a b e h = omega arith
+    lt_self : (a b : ℕ) → a ≡ b → a < b → ⊥
+    lt_self a b e h = omega arith
 
     lt_back : (a b : ℕ) → a < b → b < a → ⊥
     lt_back a b h g = omega arith
 
-pub times-tested : (t t' : Float) → ComparableTimes t t' → (z : Bool) × TimeTested t z × TimeTested t' z
-times-tested t t' (inl (a, b)) = (true, zero-time t a, zero-time t' b)
-times-tested t t' (inr (a, b, c, d)) = (false, positive-time t a b, positive-time t' c d)
+pub times_tested : (t t' : Float) → ComparableTimes t t' → (z : Bool) × TimeTested t z × TimeTested t' z
+times_tested t t' (inl (a, b)) = (true, zero_time t a, zero_time t' b)
+times_tested t t' (inr (a, b, c, d)) = (false, positive_time t a b, positive_time t' c d)
 
 -- ---- figures that pass tests 2, 3 and 4
-pub above-plusZero : (x : Float) → PositiveNormal x → lt plusZero x ≡ true
-above-plusZero x o =
+pub above_plus_zero : (x : Float) → PositiveNormal x → lt plus_zero x ≡ true
+above_plus_zero x o =
     let a = 0 * den x in
     let b = num x * 1 in
-    let above : a < b = rw (zero-mul (den x), mul-one (num x)) (num-above x o) in
-    ap (λ (z : Float). lt z x) plusZero-is
-    ∙ lt-is (zero_of false) x tt o.bounded
+    let above : a < b = rw (zero-mul (den x), mul-one (num x)) (num_above x o) in
+    ap (λ (z : Float). lt z x) plus_zero_is
+    ∙ lt_is (zero_of false) x tt o.bounded
     ∙ ap (λ (s : Bool). below false a s b) (plus x o)
     ∙ is_true (ltb a b) (lt→ltb a b above)
 
 -- what follows test 4; `call` tells a call from a put
-abbrev pub afterTests : Bool → Float → Float → Float → Float → Counted Outcome
-afterTests call p f k t = fromPrice p (cond call (f ⊖ k) (k ⊖ f)) (cond call f k) (sqrt f ⊗ sqrt k) (negativeAbsLogMoneyness f k) t
+abbrev pub after_tests : Bool → Float → Float → Float → Float → Counted Outcome
+after_tests call p f k t = from_price p (cond call (f ⊖ k) (k ⊖ f)) (cond call f k) (sqrt f ⊗ sqrt k) (negative_abs_log_moneyness f k) t
 
 -- only test 1 can refuse
-pub first-refusal-is : (side : ℕ) (p f k t : Float) (z : Bool) → T (finite p) → BoundedRatio f k → TimeTested t z
-    → firstRefusal side p f k t ≡ cond (eqb side 0 || eqb side 1) 0 1
-unfolding firstRefusal
-first-refusal-is side p f k t z P h w =
+pub first_refusal_is : (side : ℕ) (p f k t : Float) (z : Bool) → T (finite p) → BoundedRatio f k → TimeTested t z
+    → first_refusal side p f k t ≡ cond (eqb side 0 || eqb side 1) 0 1
+unfolding first_refusal
+first_refusal_is side p f k t z P h w =
     rw (
       is_true (finite p) P,
       is_true (finite f) h.forward.bounded,
       is_true (finite k) h.strike.bounded,
-      w.finite-time,
-      above-plusZero f h.forward,
-      above-plusZero k h.strike,
+      w.finite_time,
+      above_plus_zero f h.forward,
+      above_plus_zero k h.strike,
       w.no_less,
     )
     (go (eqb side 0 || eqb side 1))
@@ -121,10 +121,10 @@ first-refusal-is side p f k t z P h w =
     go true = refl
     go false = refl
 
-from-quote-is : (side : ℕ) (p f k t : Float) (z : Bool) → T (finite p) → BoundedRatio f k → TimeTested t z
-    → fromQuote side p f k t ≡ cond (eqb side 0 || eqb side 1) (afterTests (eqb side 0) p f k t) (at_once (refused 1))
-unfolding fromQuote
-from-quote-is side p f k t z P h w = rw (first-refusal-is side p f k t z P h w) (go (eqb side 0 || eqb side 1) (afterTests (eqb side 0) p f k t))
+from_quote_is : (side : ℕ) (p f k t : Float) (z : Bool) → T (finite p) → BoundedRatio f k → TimeTested t z
+    → from_quote side p f k t ≡ cond (eqb side 0 || eqb side 1) (after_tests (eqb side 0) p f k t) (at_once (refused 1))
+unfolding from_quote
+from_quote_is side p f k t z P h w = rw (first_refusal_is side p f k t z P h w) (go (eqb side 0 || eqb side 1) (after_tests (eqb side 0) p f k t))
   where
     go : (b : Bool) (c : Counted Outcome) → cond (eqb (cond b 0 1) 0) c (at_once (refused (cond b 0 1))) ≡ cond b c (at_once (refused 1))
     go true c = refl
@@ -132,70 +132,70 @@ from-quote-is side p f k t z P h w = rw (first-refusal-is side p f k t z P h w) 
 
 -- ---- a call of forward f and strike k is a put of forward k and strike f
 pub swapped : (f k : Float) → BoundedRatio f k → BoundedRatio k f
-swapped f k h = record { forward = h.strike; strike = h.forward; not-over = h.not-under; not-under = h.not-over }
+swapped f k h = record { forward = h.strike; strike = h.forward; not_over = h.not_under; not_under = h.not_over }
 
-pub exchanged : (call : Bool) (p f k t : Float) → BoundedRatio f k → afterTests (not call) p f k t ≡ afterTests call p k f t
+pub exchanged : (call : Bool) (p f k t : Float) → BoundedRatio f k → after_tests (not call) p f k t ≡ after_tests call p k f t
 exchanged call p f k t h = go call
   where
     roots : sqrt f ⊗ sqrt k ≡ sqrt k ⊗ sqrt f
-    roots = mul-swap binary64 (sqrt f) (sqrt k)
+    roots = mul_swap binary64 (sqrt f) (sqrt k)
 
-    logs : negativeAbsLogMoneyness f k ≡ negativeAbsLogMoneyness k f
-    logs = log-swap 0 k f f k (swapped f k h) h (times-refl k h.strike.bounded) (times-refl f h.forward.bounded)
+    logs : negative_abs_log_moneyness f k ≡ negative_abs_log_moneyness k f
+    logs = log_swap 0 k f f k (swapped f k h) h (times_refl k h.strike.bounded) (times_refl f h.forward.bounded)
 
-    go : (call : Bool) → afterTests (not call) p f k t ≡ afterTests call p k f t
+    go : (call : Bool) → after_tests (not call) p f k t ≡ after_tests call p k f t
     go true = rw (roots, logs)
     go false = rw (roots, logs)
 
 -- ---- from `Exactly` to `Times`
-up-value : (n nx dx ny dy : ℕ) → ny * dx * 1 ≡ nx * dy * 4 ^ n → ny * dx ≡ nx * 2 ^ (n + n) * dy
-up-value n nx dx ny dy e = sym (mul-one (ny * dx)) ∙ e ∙ ap (λ (z : ℕ). nx * dy * z) (four-square n) ∙ mul_right_comm nx dy (2 ^ (n + n))
+up_value : (n nx dx ny dy : ℕ) → ny * dx * 1 ≡ nx * dy * 4 ^ n → ny * dx ≡ nx * 2 ^ (n + n) * dy
+up_value n nx dx ny dy e = sym (mul-one (ny * dx)) ∙ e ∙ ap (λ (z : ℕ). nx * dy * z) (four_square n) ∙ mul_right_comm nx dy (2 ^ (n + n))
 
 -- 2 ^ k times each other with one sign, or both zero
 pub data Related (k : ℕ) (x y : Float) : Type 0 where
-  related-times : Times k x y → Related k x y
+  related_times : Times k x y → Related k x y
   vanish : num x ≡ 0 → num y ≡ 0 → Related k x y
 
 vanishes : (n m d c : ℕ) → 0 < c → n ≡ 0 → m * c ≡ n * d → m ≡ 0
 vanishes n m d c C z e = eq_of_mul-eq-mul_right c C m 0 (e ∙ ap (λ (u : ℕ). u * d) z ∙ zero-mul d ∙ sym (zero-mul c))
 
 -- what is 2 ^ k times a zero is a zero
-pub zero-times : (k : ℕ) (x y : Float) → num y * den x ≡ num x * 2 ^ k * den y → num x ≡ 0 → num y ≡ 0
-zero-times k x y v z = vanishes (num x) (num y) (2 ^ k * den y) (den x) (den_pos x) z (v ∙ mul_assoc (num x) (2 ^ k) (den y))
+pub zero_times : (k : ℕ) (x y : Float) → num y * den x ≡ num x * 2 ^ k * den y → num x ≡ 0 → num y ≡ 0
+zero_times k x y v z = vanishes (num x) (num y) (2 ^ k * den y) (den x) (den_pos x) z (v ∙ mul_assoc (num x) (2 ^ k) (den y))
 
 pub upward : (n : ℕ) (x y : Float) → Exactly (pos n) x y → Related (n + n) x y
 upward n x y h = go h.signs
   where
     v : num y * den x ≡ num x * 2 ^ (n + n) * den y
-    v = up-value n (num x) (den x) (num y) (den y) h.fraction
+    v = up_value n (num x) (den x) (num y) (den y) h.fraction
 
-    go : (num x ≡ 0) ⊎ (isSignMinus y ≡ isSignMinus x) → Related (n + n) x y
-    go (inl z) = vanish z (zero-times (n + n) x y v z)
-    go (inr s) = related-times (record { finite-l = h.finite-x; finite-r = h.finite-y; sign = s; value = v })
+    go : (num x ≡ 0) ⊎ (is_sign_minus y ≡ is_sign_minus x) → Related (n + n) x y
+    go (inl z) = vanish z (zero_times (n + n) x y v z)
+    go (inr s) = related_times (record { finite_l = h.finite_x; finite_r = h.finite_y; sign = s; value = v })
 
 pub downward : (n : ℕ) (x y : Float) → Exactly (negsuc n) x y → Related (suc n + suc n) y x
 downward n x y h = go h.signs
   where
     v : num x * den y ≡ num y * 2 ^ (suc n + suc n) * den x
-    v = up-value (suc n) (num y) (den y) (num x) (den x) (sym h.fraction)
+    v = up_value (suc n) (num y) (den y) (num x) (den x) (sym h.fraction)
 
     u : num y * (den x * 4 ^ suc n) ≡ num x * den y
     u = sym (mul_assoc (num y) (den x) (4 ^ suc n)) ∙ h.fraction ∙ mul-one (num x * den y)
 
-    go : (num x ≡ 0) ⊎ (isSignMinus y ≡ isSignMinus x) → Related (suc n + suc n) y x
-    go (inl z) = vanish (vanishes (num x) (num y) (den y) (den x * 4 ^ suc n) (mul-pos (den_pos x) (four-pos (suc n))) z u) z
-    go (inr s) = related-times (record { finite-l = h.finite-y; finite-r = h.finite-x; sign = sym s; value = v })
+    go : (num x ≡ 0) ⊎ (is_sign_minus y ≡ is_sign_minus x) → Related (suc n + suc n) y x
+    go (inl z) = vanish (vanishes (num x) (num y) (den y) (den x * 4 ^ suc n) (mul-pos (den_pos x) (four_pos (suc n))) z u) z
+    go (inr s) = related_times (record { finite_l = h.finite_y; finite_r = h.finite_x; sign = sym s; value = v })
 
-pub normal-times : (k : ℕ) (x y : Float) → PositiveNormal x → Related k x y → Times k x y
-normal-times k x y o (related-times h) = h
-normal-times k x y o (vanish e g) = absurd (lt_irrefl 0 (subst (λ (z : ℕ). 0 < z) e (num-above x o)))
+pub normal_times : (k : ℕ) (x y : Float) → PositiveNormal x → Related k x y → Times k x y
+normal_times k x y o (related_times h) = h
+normal_times k x y o (vanish e g) = absurd (lt_irrefl 0 (subst (λ (z : ℕ). 0 < z) e (num_above x o)))
 
 -- `Exactly` of normal values above zero as `Times`: upward from x to y, and downward from y to x
-pub exactly-up : (n : ℕ) (x y : Float) → PositiveNormal x → Exactly (pos n) x y → Times (n + n) x y
-exactly-up n x y o h = normal-times (n + n) x y o (upward n x y h)
+pub exactly_up : (n : ℕ) (x y : Float) → PositiveNormal x → Exactly (pos n) x y → Times (n + n) x y
+exactly_up n x y o h = normal_times (n + n) x y o (upward n x y h)
 
-pub exactly-down : (n : ℕ) (x y : Float) → PositiveNormal y → Exactly (negsuc n) x y → Times (suc n + suc n) y x
-exactly-down n x y o h = normal-times (suc n + suc n) y x o (downward n x y h)
+pub exactly_down : (n : ℕ) (x y : Float) → PositiveNormal y → Exactly (negsuc n) x y → Times (suc n + suc n) y x
+exactly_down n x y o h = normal_times (suc n + suc n) y x o (downward n x y h)
 
 -- ---- prices that are zero, of either sign, and prices with the sign clear
 
@@ -203,200 +203,200 @@ exactly-down n x y o h = normal-times (suc n + suc n) y x o (downward n x y h)
 pub record ComparableValues (p f k : Float) : Type 0 where
   pub held : T (fits binary64 p)
   pub bounded : T (finite p)
-  pub not_negative : T (le plusZero p)
+  pub not_negative : T (le plus_zero p)
   pub pair : BoundedRatio f k
 
-pub clear-or-zero : (p : Float) → T (finite p) → T (le plusZero p) → (isSignMinus p ≡ false) ⊎ (num p ≡ 0)
+pub clear_or_zero : (p : Float) → T (finite p) → T (le plus_zero p) → (is_sign_minus p ≡ false) ⊎ (num p ≡ 0)
 unfolding le of_bits
-clear-or-zero nan b h = absurd b
-clear-or-zero (inf s) b h = absurd b
-clear-or-zero (fin false m e) b h = inl refl
-clear-or-zero (fin true m e) b h =
+clear_or_zero nan b h = absurd b
+clear_or_zero (inf s) b h = absurd b
+clear_or_zero (fin false m e) b h = inl refl
+clear_or_zero (fin true m e) b h =
     let a = 0 * down e in
     let c = m * up e * 1 in
     let same : a ≡ c = eqb→eq a c (and_l (eqb a c) (false || eqb a 0) h) in
     inr (sym (mul-one (m * up e)) ∙ sym same ∙ zero-mul (down e))
 
-pub zero-after-tests : (call : Bool) (p f k t : Float) → T (fits binary64 p) → T (finite p) → num p ≡ 0
-    → afterTests call p f k t ≡ afterTests call (zero_of false) f k t
-zero-after-tests call p f k t F b e =
-    let s = isSignMinus p in
-    ap (λ (q : Float). afterTests call q f k t) (zero-by-sign p F b e)
-    ∙ zero-from-price s (cond call (f ⊖ k) (k ⊖ f)) (cond call f k) (sqrt f ⊗ sqrt k) (negativeAbsLogMoneyness f k) t
+pub zero_after_tests : (call : Bool) (p f k t : Float) → T (fits binary64 p) → T (finite p) → num p ≡ 0
+    → after_tests call p f k t ≡ after_tests call (zero_of false) f k t
+zero_after_tests call p f k t F b e =
+    let s = is_sign_minus p in
+    ap (λ (q : Float). after_tests call q f k t) (zero_by_sign p F b e)
+    ∙ zero_from_price s (cond call (f ⊖ k) (k ⊖ f)) (cond call f k) (sqrt f ⊗ sqrt k) (negative_abs_log_moneyness f k) t
 
-zero-plain : Plain (zero_of false)
-zero-plain = record { held = (unfold fits in tt); bounded = tt; clear = refl }
+zero_plain : Plain (zero_of false)
+zero_plain = record { held = (unfold fits in tt); bounded = tt; clear = refl }
 
-pub difference-finite : (b c : Float) → PositiveNormal b → PositiveNormal c → T (finite (b ⊖ c))
-difference-finite b c o q = sub-finite binary64 b c o.held q.held o.bounded q.bounded (plus b o) (plus c q)
+pub difference_finite : (b c : Float) → PositiveNormal b → PositiveNormal c → T (finite (b ⊖ c))
+difference_finite b c o q = sub_finite binary64 b c o.held q.held o.bounded q.bounded (plus b o) (plus c q)
 
 -- ---- what follows test 4, for figures scaled by 2 ^ (n + n)
 module _ (n : ℕ) (f k t f' k' t' : Float) (z : Bool) (h : BoundedRatio f k) (h' : BoundedRatio f' k') (w : TimeTested t z) (w' : TimeTested t' z)
     (hf : Times (n + n) f f') (hk : Times (n + n) k k') where
   -- b is the bound of the price and c the other of forward and strike
-  bound-times : (p b c p' b' c' : Float) → Plain p → Plain p' → PositiveNormal b → PositiveNormal c → PositiveNormal b' → PositiveNormal c'
+  bound_times : (p b c p' b' c' : Float) → Plain p → Plain p' → PositiveNormal b → PositiveNormal c → PositiveNormal b' → PositiveNormal c'
       → Times (n + n) p p' → Times (n + n) b b' → Times (n + n) c c'
-      → fromPrice p' (b' ⊖ c') b' (sqrt f' ⊗ sqrt k') (negativeAbsLogMoneyness f' k') t'
-      ≡ fromPrice p (b ⊖ c) b (sqrt f ⊗ sqrt k) (negativeAbsLogMoneyness f k) t
-  bound-times p b c p' b' c' o o' B C B' C' hp hb hc =
-      from-price-times (n + n) p (b ⊖ c) b _ _ t p' (b' ⊖ c') b' _ _ t' o o' (sub-fits binary64 b c) (sub-fits binary64 b' c') hp
-      (sub-times binary64 (n + n) b c b' c' B.held C.held hb hc (difference-finite b' c' B' C'))
+      → from_price p' (b' ⊖ c') b' (sqrt f' ⊗ sqrt k') (negative_abs_log_moneyness f' k') t'
+      ≡ from_price p (b ⊖ c) b (sqrt f ⊗ sqrt k) (negative_abs_log_moneyness f k) t
+  bound_times p b c p' b' c' o o' B C B' C' hp hb hc =
+      from_price_times (n + n) p (b ⊖ c) b _ _ t p' (b' ⊖ c') b' _ _ t' o o' (sub-fits binary64 b c) (sub-fits binary64 b' c') hp
+      (sub_times binary64 (n + n) b c b' c' B.held C.held hb hc (difference_finite b' c' B' C'))
       hb
-      (roots-times n f k f' k' h.forward h.strike h'.forward h'.strike hf hk)
-      (log-times (n + n) f k f' k' h h' hf hk)
+      (roots_times n f k f' k' h.forward h.strike h'.forward h'.strike hf hk)
+      (log_times (n + n) f k f' k' h h' hf hk)
       (w'.is_zero ∙ sym w.is_zero)
 
-  plain-price : (call : Bool) (p p' : Float) → Plain p → Plain p' → Times (n + n) p p' → afterTests call p' f' k' t' ≡ afterTests call p f k t
-  plain-price true p p' o o' hp = bound-times p f k p' f' k' o o' h.forward h.strike h'.forward h'.strike hp hf hk
-  plain-price false p p' o o' hp = bound-times p k f p' k' f' o o' h.strike h.forward h'.strike h'.forward hp hk hf
+  plain_price : (call : Bool) (p p' : Float) → Plain p → Plain p' → Times (n + n) p p' → after_tests call p' f' k' t' ≡ after_tests call p f k t
+  plain_price true p p' o o' hp = bound_times p f k p' f' k' o o' h.forward h.strike h'.forward h'.strike hp hf hk
+  plain_price false p p' o o' hp = bound_times p k f p' k' f' o o' h.strike h.forward h'.strike h'.forward hp hk hf
 
-  any-price : (call : Bool) (p p' : Float) → ComparableValues p f k → ComparableValues p' f' k' → Related (n + n) p p'
-      → afterTests call p' f' k' t' ≡ afterTests call p f k t
-  any-price call p p' o o' q = go q
+  any_price : (call : Bool) (p p' : Float) → ComparableValues p f k → ComparableValues p' f' k' → Related (n + n) p p'
+      → after_tests call p' f' k' t' ≡ after_tests call p f k t
+  any_price call p p' o o' q = go q
     where
-      both_zero : num p ≡ 0 → num p' ≡ 0 → afterTests call p' f' k' t' ≡ afterTests call p f k t
+      both_zero : num p ≡ 0 → num p' ≡ 0 → after_tests call p' f' k' t' ≡ after_tests call p f k t
       both_zero e e' =
-          zero-after-tests call p' f' k' t' o'.held o'.bounded e'
-          ∙ plain-price call (zero_of false) (zero_of false) zero-plain zero-plain (subst (λ (x : Float). Times (n + n) x x) plusZero-is (times_zero (n + n)))
-          ∙ sym (zero-after-tests call p f k t o.held o.bounded e)
+          zero_after_tests call p' f' k' t' o'.held o'.bounded e'
+          ∙ plain_price call (zero_of false) (zero_of false) zero_plain zero_plain (subst (λ (x : Float). Times (n + n) x x) plus_zero_is (times_zero (n + n)))
+          ∙ sym (zero_after_tests call p f k t o.held o.bounded e)
 
-      plain : (x : Float) → T (fits binary64 x) → T (finite x) → isSignMinus x ≡ false → Plain x
+      plain : (x : Float) → T (fits binary64 x) → T (finite x) → is_sign_minus x ≡ false → Plain x
       plain x F b c = record { held = F; bounded = b; clear = c }
 
-      go : Related (n + n) p p' → afterTests call p' f' k' t' ≡ afterTests call p f k t
+      go : Related (n + n) p p' → after_tests call p' f' k' t' ≡ after_tests call p f k t
       go (vanish e e') = both_zero e e'
-      go (related-times g) = elim (clear-or-zero p o.bounded o.not_negative) [
-        | inl c ↦ plain-price call p p' (plain p o.held o.bounded c) (plain p' o'.held o'.bounded (g.sign ∙ c)) g
-        | inr e ↦ both_zero e (zero-times (n + n) p p' g.value e)
+      go (related_times g) = elim (clear_or_zero p o.bounded o.not_negative) [
+        | inl c ↦ plain_price call p p' (plain p o.held o.bounded c) (plain p' o'.held o'.bounded (g.sign ∙ c)) g
+        | inr e ↦ both_zero e (zero_times (n + n) p p' g.value e)
       ]
 
 -- ---- demand 3 for values of binary64: what follows test 4, then the quotes
-scaled-up : (n : ℕ) (p f k t p' f' k' t' : Float) → ComparableValues p f k → ComparableValues p' f' k' → (z : Bool) → TimeTested t z → TimeTested t' z
-    → Related (n + n) p p' → Related (n + n) f f' → Related (n + n) k k' → (call : Bool) → afterTests call p' f' k' t' ≡ afterTests call p f k t
-scaled-up n p f k t p' f' k' t' o o' z w w' hp hf hk call =
-    let tf = normal-times (n + n) f f' o.pair.forward hf in
-    let tk = normal-times (n + n) k k' o.pair.strike hk in
-    any-price n f k t f' k' t' z o.pair o'.pair w w' tf tk call p p' o o' hp
+scaled_up : (n : ℕ) (p f k t p' f' k' t' : Float) → ComparableValues p f k → ComparableValues p' f' k' → (z : Bool) → TimeTested t z → TimeTested t' z
+    → Related (n + n) p p' → Related (n + n) f f' → Related (n + n) k k' → (call : Bool) → after_tests call p' f' k' t' ≡ after_tests call p f k t
+scaled_up n p f k t p' f' k' t' o o' z w w' hp hf hk call =
+    let tf = normal_times (n + n) f f' o.pair.forward hf in
+    let tk = normal_times (n + n) k k' o.pair.strike hk in
+    any_price n f k t f' k' t' z o.pair o'.pair w w' tf tk call p p' o o' hp
 
 module _ (p f k t p' f' k' t' : Float) (o : ComparableValues p f k) (o' : ComparableValues p' f' k') (w : ComparableTimes t t') where
-  pub same-figures : (n : ℤ) (call : Bool) → Exactly n p p' → Exactly n f f' → Exactly n k k' → afterTests call p' f' k' t' ≡ afterTests call p f k t
-  same-figures (pos n) call hp hf hk =
-      let (z, u, v) = times-tested t t' w in
-      scaled-up n p f k t p' f' k' t' o o' z u v (upward n p p' hp) (upward n f f' hf) (upward n k k' hk) call
-  same-figures (negsuc n) call hp hf hk =
-      let (z, u, v) = times-tested t t' w in
-      sym (scaled-up (suc n) p' f' k' t' p f k t o' o z v u (downward n p p' hp) (downward n f f' hf) (downward n k k' hk) call)
+  pub same_figures : (n : ℤ) (call : Bool) → Exactly n p p' → Exactly n f f' → Exactly n k k' → after_tests call p' f' k' t' ≡ after_tests call p f k t
+  same_figures (pos n) call hp hf hk =
+      let (z, u, v) = times_tested t t' w in
+      scaled_up n p f k t p' f' k' t' o o' z u v (upward n p p' hp) (upward n f f' hf) (upward n k k' hk) call
+  same_figures (negsuc n) call hp hf hk =
+      let (z, u, v) = times_tested t t' w in
+      sym (scaled_up (suc n) p' f' k' t' p f k t o' o z v u (downward n p p' hp) (downward n f f' hf) (downward n k k' hk) call)
 
-  pub same_outcome : (n : ℤ) (side : ℕ) → Exactly n p p' → Exactly n f f' → Exactly n k k' → fromQuote side p' f' k' t' ≡ fromQuote side p f k t
+  pub same_outcome : (n : ℤ) (side : ℕ) → Exactly n p p' → Exactly n f f' → Exactly n k k' → from_quote side p' f' k' t' ≡ from_quote side p f k t
   same_outcome n side hp hf hk =
-      let (z, u, v) = times-tested t t' w in
-      from-quote-is side p' f' k' t' z o'.bounded o'.pair v
-      ∙ ap (λ (c : Counted Outcome). cond (eqb side 0 || eqb side 1) c (at_once (refused 1))) (same-figures n (eqb side 0) hp hf hk)
-      ∙ sym (from-quote-is side p f k t z o.bounded o.pair u)
+      let (z, u, v) = times_tested t t' w in
+      from_quote_is side p' f' k' t' z o'.bounded o'.pair v
+      ∙ ap (λ (c : Counted Outcome). cond (eqb side 0 || eqb side 1) c (at_once (refused 1))) (same_figures n (eqb side 0) hp hf hk)
+      ∙ sym (from_quote_is side p f k t z o.bounded o.pair u)
 
 module _ (p f k t p' f' k' t' : Float) (o : ComparableValues p f k) (o' : ComparableValues p' f' k') (w : ComparableTimes t t') where
-  other-figures : (n : ℤ) (call : Bool) → Exactly n p p' → Exactly n k f' → Exactly n f k' → afterTests (not call) p' f' k' t' ≡ afterTests call p f k t
-  other-figures n call hp hk hf =
+  other_figures : (n : ℤ) (call : Bool) → Exactly n p p' → Exactly n k f' → Exactly n f k' → after_tests (not call) p' f' k' t' ≡ after_tests call p f k t
+  other_figures n call hp hk hf =
       let pair = swapped f' k' o'.pair in
       let o'' : ComparableValues p' k' f' = record { held = o'.held; bounded = o'.bounded; not_negative = o'.not_negative; pair = pair } in
-      exchanged call p' f' k' t' o'.pair ∙ same-figures p f k t p' k' f' t' o o'' w n call hp hf hk
+      exchanged call p' f' k' t' o'.pair ∙ same_figures p f k t p' k' f' t' o o'' w n call hp hf hk
 
-  pub other-outcome : (n : ℤ) → Exactly n p p' → Exactly n k f' → Exactly n f k'
-      → (fromQuote 1 p' f' k' t' ≡ fromQuote 0 p f k t) × (fromQuote 0 p' f' k' t' ≡ fromQuote 1 p f k t)
-  other-outcome n hp hk hf =
-      let (z, u, v) = times-tested t t' w in (
-        from-quote-is 1 p' f' k' t' z o'.bounded o'.pair v ∙ other-figures n true hp hk hf ∙ sym (from-quote-is 0 p f k t z o.bounded o.pair u),
-        from-quote-is 0 p' f' k' t' z o'.bounded o'.pair v ∙ other-figures n false hp hk hf ∙ sym (from-quote-is 1 p f k t z o.bounded o.pair u),
+  pub other_outcome : (n : ℤ) → Exactly n p p' → Exactly n k f' → Exactly n f k'
+      → (from_quote 1 p' f' k' t' ≡ from_quote 0 p f k t) × (from_quote 0 p' f' k' t' ≡ from_quote 1 p f k t)
+  other_outcome n hp hk hf =
+      let (z, u, v) = times_tested t t' w in (
+        from_quote_is 1 p' f' k' t' z o'.bounded o'.pair v ∙ other_figures n true hp hk hf ∙ sym (from_quote_is 0 p f k t z o.bounded o.pair u),
+        from_quote_is 0 p' f' k' t' z o'.bounded o'.pair v ∙ other_figures n false hp hk hf ∙ sym (from_quote_is 1 p f k t z o.bounded o.pair u),
       )
 
 -- ---- DEMAND 3, for figures of any bits
 
 -- what is compared of a quote with figures of these bits
-abbrev pub inputAtBits : ℕ → ℕ → ℕ → ℕ → ℕ → Counted Outcome
-inputAtBits side p f k t = compared (impliedBlackVolatilityInput side (bits p) (bits f) (bits k) (bits t))
+abbrev pub input_at_bits : ℕ → ℕ → ℕ → ℕ → ℕ → Counted Outcome
+input_at_bits side p f k t = compared (implied_black_volatility_input side (bits p) (bits f) (bits k) (bits t))
 
-input-at-bits-is : (side p f k t : ℕ) → inputAtBits side p f k t ≡ fromQuote side (bits p) (bits f) (bits k) (bits t)
-input-at-bits-is side p f k t = compared-input side (bits p) (bits f) (bits k) (bits t)
+input_at_bits_is : (side p f k t : ℕ) → input_at_bits side p f k t ≡ from_quote side (bits p) (bits f) (bits k) (bits t)
+input_at_bits_is side p f k t = compared_input side (bits p) (bits f) (bits k) (bits t)
 
-pub comparable-ratio : (f k : ℕ) → ComparablePair (bits f) (bits k) → BoundedRatio (bits f) (bits k)
-comparable-ratio f k h =
-    let r = h.in-range in
+pub comparable_ratio : (f k : ℕ) → ComparablePair (bits f) (bits k) → BoundedRatio (bits f) (bits k)
+comparable_ratio f k h =
+    let r = h.in_range in
     record {
-      forward = record { held = of_bits-fits binary64 f; bounded = r.forward-finite; large = r.forward-normal };
-      strike = record { held = of_bits-fits binary64 k; bounded = r.strike-finite; large = r.strike-normal };
-      not-over = h.forward-not-over;
-      not-under = h.strike-not-over;
+      forward = record { held = of_bits-fits binary64 f; bounded = r.forward_finite; large = r.forward_normal };
+      strike = record { held = of_bits-fits binary64 k; bounded = r.strike_finite; large = r.strike_normal };
+      not_over = h.forward_not_over;
+      not_under = h.strike_not_over;
     }
 
-comparable-values : (p f k : ℕ) → ComparableFigures (bits p) (bits f) (bits k) → ComparableValues (bits p) (bits f) (bits k)
-comparable-values p f k h = record {
+comparable_values : (p f k : ℕ) → ComparableFigures (bits p) (bits f) (bits k) → ComparableValues (bits p) (bits f) (bits k)
+comparable_values p f k h = record {
   held = of_bits-fits binary64 p;
-  bounded = h.price-finite;
-  not_negative = h.price-not-negative;
-  pair = comparable-ratio f k h.pair;
+  bounded = h.price_finite;
+  not_negative = h.price_not_negative;
+  pair = comparable_ratio f k h.pair;
 }
 
 module _ (n : ℤ) (p f k t p' f' k' t' : ℕ) (h : ComparableFigures (bits p) (bits f) (bits k)) (h' : ComparableFigures (bits p') (bits f') (bits k'))
     (w : ComparableTimes (bits t) (bits t')) (e : Exactly n (bits p) (bits p')) where
   -- The second quote has the first's side, whatever number that is, and its price, forward and strike are exactly 4 ^ n times the first's.
-  pub same-side : (side : ℕ) → Exactly n (bits f) (bits f') → Exactly n (bits k) (bits k') → inputAtBits side p' f' k' t' ≡ inputAtBits side p f k t
-  same-side side g i =
-      let o = comparable-values p f k h in
-      let o' = comparable-values p' f' k' h' in
-      input-at-bits-is side p' f' k' t'
+  pub same_side : (side : ℕ) → Exactly n (bits f) (bits f') → Exactly n (bits k) (bits k') → input_at_bits side p' f' k' t' ≡ input_at_bits side p f k t
+  same_side side g i =
+      let o = comparable_values p f k h in
+      let o' = comparable_values p' f' k' h' in
+      input_at_bits_is side p' f' k' t'
       ∙ same_outcome (bits p) (bits f) (bits k) (bits t) (bits p') (bits f') (bits k') (bits t') o o' w n side e g i
-      ∙ sym (input-at-bits-is side p f k t)
+      ∙ sym (input_at_bits_is side p f k t)
 
   -- The first is a call or a put, and the second is on the other side, with price, forward and strike exactly 4 ^ n times the first's price, strike and
   -- forward.
-  pub other-side : Exactly n (bits k) (bits f') → Exactly n (bits f) (bits k')
-      → (inputAtBits 1 p' f' k' t' ≡ inputAtBits 0 p f k t) × (inputAtBits 0 p' f' k' t' ≡ inputAtBits 1 p f k t)
-  other-side g i =
-      let o = comparable-values p f k h in
-      let o' = comparable-values p' f' k' h' in
-      let q = other-outcome (bits p) (bits f) (bits k) (bits t) (bits p') (bits f') (bits k') (bits t') o o' w n e g i in (
-        input-at-bits-is 1 p' f' k' t' ∙ q.0 ∙ sym (input-at-bits-is 0 p f k t),
-        input-at-bits-is 0 p' f' k' t' ∙ q.1 ∙ sym (input-at-bits-is 1 p f k t),
+  pub other_side : Exactly n (bits k) (bits f') → Exactly n (bits f) (bits k')
+      → (input_at_bits 1 p' f' k' t' ≡ input_at_bits 0 p f k t) × (input_at_bits 0 p' f' k' t' ≡ input_at_bits 1 p f k t)
+  other_side g i =
+      let o = comparable_values p f k h in
+      let o' = comparable_values p' f' k' h' in
+      let q = other_outcome (bits p) (bits f) (bits k) (bits t) (bits p') (bits f') (bits k') (bits t') o o' w n e g i in (
+        input_at_bits_is 1 p' f' k' t' ∙ q.0 ∙ sym (input_at_bits_is 0 p f k t),
+        input_at_bits_is 0 p' f' k' t' ∙ q.1 ∙ sym (input_at_bits_is 1 p f k t),
       )
 
 -- ---- the call 0 1 100 120 1 and the put 1 4 480 400 1 of REQUIREMENTS 12.2 agree: the hypotheses are met
 
 -- the bits of 1, 100 and 120, and of 4, 480 and 400
-abbrev pub callPrice : ℕ
-callPrice = 0x3FF0_0000_0000_0000
+abbrev pub call_price : ℕ
+call_price = 0x3FF0_0000_0000_0000
 
-abbrev pub callForward : ℕ
-callForward = 0x4059_0000_0000_0000
+abbrev pub call_forward : ℕ
+call_forward = 0x4059_0000_0000_0000
 
-abbrev pub callStrike : ℕ
-callStrike = 0x405E_0000_0000_0000
+abbrev pub call_strike : ℕ
+call_strike = 0x405E_0000_0000_0000
 
-abbrev pub putPrice : ℕ
-putPrice = 0x4010_0000_0000_0000
+abbrev pub put_price : ℕ
+put_price = 0x4010_0000_0000_0000
 
-abbrev pub putForward : ℕ
-putForward = 0x407E_0000_0000_0000
+abbrev pub put_forward : ℕ
+put_forward = 0x407E_0000_0000_0000
 
-abbrev pub putStrike : ℕ
-putStrike = 0x4079_0000_0000_0000
+abbrev pub put_strike : ℕ
+put_strike = 0x4079_0000_0000_0000
 
-abbrev pub timeOne : ℕ
-timeOne = 0x3FF0_0000_0000_0000
+abbrev pub time_one : ℕ
+time_one = 0x3FF0_0000_0000_0000
 
-pub comparable-call : ComparableFigures (bits callPrice) (bits callForward) (bits callStrike)
+pub comparable_call : ComparableFigures (bits call_price) (bits call_forward) (bits call_strike)
 unfolding of_bits le
-comparable-call = comparable _ _ _ tt tt (comparable-pair _ _ tt tt tt tt (lit≤ tt) (lit≤ tt))
+comparable_call = comparable _ _ _ tt tt (comparable_pair _ _ tt tt tt tt (lit≤ tt) (lit≤ tt))
 
-pub comparable-put : ComparableFigures (bits putPrice) (bits putForward) (bits putStrike)
+pub comparable_put : ComparableFigures (bits put_price) (bits put_forward) (bits put_strike)
 unfolding of_bits le
-comparable-put = comparable _ _ _ tt tt (comparable-pair _ _ tt tt tt tt (lit≤ tt) (lit≤ tt))
+comparable_put = comparable _ _ _ tt tt (comparable_pair _ _ tt tt tt tt (lit≤ tt) (lit≤ tt))
 
-pub call-and-put-agree : inputAtBits 1 putPrice putForward putStrike timeOne ≡ inputAtBits 0 callPrice callForward callStrike timeOne
+pub call_and_put_agree : input_at_bits 1 put_price put_forward put_strike time_one ≡ input_at_bits 0 call_price call_forward call_strike time_one
 unfolding of_bits lt
-call-and-put-agree =
-    (other-side (pos 1) callPrice callForward callStrike timeOne putPrice putForward putStrike timeOne comparable-call comparable-put
+call_and_put_agree =
+    (other_side (pos 1) call_price call_forward call_strike time_one put_price put_forward put_strike time_one comparable_call comparable_put
     (inr (tt, tt, tt, tt))
-    (four-times (bits callPrice) (bits putPrice) tt tt refl refl)
-    (four-times (bits callStrike) (bits putForward) tt tt refl refl)
-    (four-times (bits callForward) (bits putStrike) tt tt refl refl)
+    (four_times (bits call_price) (bits put_price) tt tt refl refl)
+    (four_times (bits call_strike) (bits put_forward) tt tt refl refl)
+    (four_times (bits call_forward) (bits put_strike) tt tt refl refl)
     ).0

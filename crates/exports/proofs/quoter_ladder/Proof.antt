@@ -5,8 +5,8 @@ use Prim.Native.Nat.{ℕ}
 use lib.Ieee.{Float}
 use Rattle.ladder.specs.declared.ladder.LadderReply.{LadderReply}
 use Rattle.ladder.specs.Ladder.{Ladder}
-use Rattle.ladder.specs.Replies.{viewLadder}
-use Rattle.exports.specs.ToC.{ladderToC}
+use Rattle.ladder.specs.Replies.{view_ladder}
+use Rattle.exports.specs.ToC.{ladder_to_c}
 use borrow.Author.Rules.{rules}
 use Rattle.exports.proofs.quoter_ladder.Statement.{statement}
 use Rattle.exports.proofs.quoter_ladder.Tie as tie
@@ -21,8 +21,8 @@ at_entry refusals-back =
 
 -- what C is handed, by the case of the reply
 by-case : (old : ℕ) {h k : LadderReply} {ts vs : List Float} {cs rs : List ℕ} {l : Ladder}
-    → h ≡ k → viewLadder h ts vs cs rs ≡ l → ladderToC old (viewLadder k ts vs cs rs) ≡ ladderToC old l
-by-case old {ts = ts} {vs = vs} {cs = cs} {rs = rs} e f = ap (λ r. ladderToC old (viewLadder r ts vs cs rs)) (sym e) ∙ ap (ladderToC old) f
+    → h ≡ k → view_ladder h ts vs cs rs ≡ l → ladder_to_c old (view_ladder k ts vs cs rs) ≡ ladder_to_c old l
+by-case old {ts = ts} {vs = vs} {cs = cs} {rs = rs} e f = ap (λ r. ladder_to_c old (view_ladder r ts vs cs rs)) (sym e) ∙ ap (ladder_to_c old) f
 
 returns : tie.Need-returns
 returns c =

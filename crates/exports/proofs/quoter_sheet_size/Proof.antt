@@ -1,7 +1,7 @@
 -- `quoter_sheet_size` meets its contract: the sheet's size picks the case. Assumes nothing.
 use mathlib.Core.Path.{sym, ap, ◌∙◌}
-use Rattle.xdr_sheet.specs.Replies.{viewSize}
-use Rattle.exports.specs.ToC.{sizeToC}
+use Rattle.xdr_sheet.specs.Replies.{view_size}
+use Rattle.exports.specs.ToC.{size_to_c}
 use borrow.Author.Rules.{rules}
 use Rattle.exports.proofs.quoter_sheet_size.Statement.{statement}
 use Rattle.exports.proofs.quoter_sheet_size.Tie as tie
@@ -11,14 +11,14 @@ returns c =
     let has-quotes = c.before in
     let at_size = has-quotes.before.before in
     let start = at_size.before.before in
-    ap (sizeToC start.args.quotes.now) (sym (ap viewSize has-quotes.n.given.1) ∙ at_size.quotes-in.ensures)
+    ap (size_to_c start.args.quotes.now) (sym (ap view_size has-quotes.n.given.1) ∙ at_size.quotes-in.ensures)
 
 returns-2 : tie.Need-returns-2
 returns-2 c =
     let is-refused = c.before in
     let at_size = is-refused.before.before in
     let start = at_size.before.before in
-    ap (sizeToC start.args.quotes.now) (sym (ap viewSize is-refused.number.given.1) ∙ at_size.quotes-in.ensures)
+    ap (size_to_c start.args.quotes.now) (sym (ap view_size is-refused.number.given.1) ∙ at_size.quotes-in.ensures)
 
 pub quoter-sheet-size-spec : {M : Type 1} → statement M
 quoter-sheet-size-spec =

@@ -74,7 +74,7 @@ module _
 
     -- what `write` ensures of its number n and the window r at exit
     abbrev Said : ℕ → Window → Type 0
-    Said n r = (n ≡ D.offsetRefusal at) × (r.bytes ≡ D.afterWrite h.bytes at word)
+    Said n r = (n ≡ D.offset_refusal at) × (r.bytes ≡ D.after_write h.bytes at word)
 
     abbrev to_write : (Write 𝓛 mem run).Ghost
     to_write = (((κ, tt), (q, tt), tt, x, vals), tt)

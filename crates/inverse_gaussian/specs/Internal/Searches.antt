@@ -2,8 +2,8 @@
 -- stands for (`viewX` for the enum X). No entry's contract cites these. Definitions only.
 use Rattle.std.specs.Prelude.{Float}
 use Rattle.arithmetic.specs.Operations.{◌⊗◌, ◌⊘◌}
-use Rattle.special_function.specs.NormalDistribution.{normPdf}
-use Rattle.special_function.specs.Internal.SharedExponential.{normPdfOfSquare}
+use Rattle.special_function.specs.NormalDistribution.{norm_pdf}
+use Rattle.special_function.specs.Internal.SharedExponential.{norm_pdf_of_square}
 use Rattle.inverse_gaussian.specs.declared.bracket.Bracket.{Bracket}
 use Rattle.inverse_gaussian.specs.declared.bracket.Widening.{Widening}
 use Rattle.inverse_gaussian.specs.declared.bracket.Widening.TheVariants.{Reached, Wider}
@@ -29,60 +29,60 @@ use Rattle.inverse_gaussian.specs.Loops.{Next, go, stop}
 -- ---- what an evaluation or a search gives, with how many evaluations are left
 
 -- the density at x, from √x, a and the exponential of -a² / 2
-abbrev pub pdfByExponential : Float → Float → Float → Float → Float
-pdfByExponential x sqrtX a e = normPdfOfSquare a e ⊘ (x ⊗ sqrtX)
+abbrev pub pdf_by_exponential : Float → Float → Float → Float → Float
+pdf_by_exponential x sqrt_x a e = norm_pdf_of_square a e ⊘ (x ⊗ sqrt_x)
 
 -- the distribution and the density at x
-abbrev pub viewEvaluation : Float → Evaluation → Metered Sample
-viewEvaluation x (Value v sqrtX a e n) = have (sample v (pdfByExponential x sqrtX a e)) n.left
-viewEvaluation x NoValue = spent
+abbrev pub view_evaluation : Float → Evaluation → Metered Sample
+view_evaluation x (Value v sqrt_x a e n) = have (sample v (pdf_by_exponential x sqrt_x a e)) n.left
+view_evaluation x NoValue = spent
 
 -- the density at x, from √x and a
-abbrev pub pdfFrom : Float → Float → Float → Float
-pdfFrom x sqrtX a = normPdf (a ⊗ a) ⊘ (x ⊗ sqrtX)
+abbrev pub pdf_from : Float → Float → Float → Float
+pdf_from x sqrt_x a = norm_pdf (a ⊗ a) ⊘ (x ⊗ sqrt_x)
 
 -- the survival and the density at x
-abbrev pub viewSurvivalEvaluation : Float → SurvivalEvaluation → Metered Sample
-viewSurvivalEvaluation x (Survives v sqrtX a n) = have (sample v (pdfFrom x sqrtX a)) n.left
-viewSurvivalEvaluation x NoSurvival = spent
+abbrev pub view_survival_evaluation : Float → SurvivalEvaluation → Metered Sample
+view_survival_evaluation x (Survives v sqrt_x a n) = have (sample v (pdf_from x sqrt_x a)) n.left
+view_survival_evaluation x NoSurvival = spent
 
 -- a bracket, or none
-abbrev pub viewReach : Reach → Metered (Option Bracket)
-viewReach (Found b n) = have (some b) n.left
-viewReach (Nowhere n) = have none n.left
-viewReach NoReach = spent
+abbrev pub view_reach : Reach → Metered (Option Bracket)
+view_reach (Found b n) = have (some b) n.left
+view_reach (Nowhere n) = have none n.left
+view_reach NoReach = spent
 
 -- a root, or none
-abbrev pub viewQuantile : Quantile → Metered (Option Float)
-viewQuantile (Root x n) = have (some x) n.left
-viewQuantile (None n) = have none n.left
-viewQuantile Spent = spent
+abbrev pub view_quantile : Quantile → Metered (Option Float)
+view_quantile (Root x n) = have (some x) n.left
+view_quantile (None n) = have none n.left
+view_quantile Spent = spent
 
 -- ---- what a step or an iteration ends with
 
 -- a Newton step's move, or none
-abbrev pub viewNewton : Newton → Option Float
-viewNewton (Move dx) = some dx
-viewNewton Refused = none
+abbrev pub view_newton : Newton → Option Float
+view_newton (Move dx) = some dx
+view_newton Refused = none
 
 -- after a Newton step
-abbrev pub viewStepped : Stepped → Next (Float × Float) (Option Float)
-viewStepped (StepRoot x) = stop (some x)
-viewStepped Failed = stop none
-viewStepped (Onward x direction) = go (x, direction)
+abbrev pub view_stepped : Stepped → Next (Float × Float) (Option Float)
+view_stepped (StepRoot x) = stop (some x)
+view_stepped Failed = stop none
+view_stepped (Onward x direction) = go (x, direction)
 
 -- after a halving, or a doubling of the distribution, which always end in a bracket
-abbrev pub viewWidening : Widening → Next Bracket Bracket
-viewWidening (Reached b) = stop b
-viewWidening (Wider b) = go b
+abbrev pub view_widening : Widening → Next Bracket Bracket
+view_widening (Reached b) = stop b
+view_widening (Wider b) = go b
 
 -- after a doubling of the survival, which may end without a bracket
-abbrev pub viewDoubling : Doubling → Next Bracket (Option Bracket)
-viewDoubling (Enough b) = stop (some b)
-viewDoubling (More b) = go b
-viewDoubling Beyond = stop none
+abbrev pub view_doubling : Doubling → Next Bracket (Option Bracket)
+view_doubling (Enough b) = stop (some b)
+view_doubling (More b) = go b
+view_doubling Beyond = stop none
 
 -- after an iteration in a bracket
-abbrev pub viewIteration : Iteration → Next (Bracket × Float) Float
-viewIteration (Last x) = stop x
-viewIteration (Again b x) = go (b, x)
+abbrev pub view_iteration : Iteration → Next (Bracket × Float) Float
+view_iteration (Last x) = stop x
+view_iteration (Again b x) = go (b, x)

@@ -2,8 +2,8 @@
 use Rattle.std.specs.Prelude.{◌≡◌, Float}
 use Rattle.arithmetic.specs.Operations.{◌⊗◌}
 use Rattle.arithmetic.specs.Sqrt.{sqrt}
-use Rattle.bs_option_price.specs.BsOptionPrice.{negativeAbsLogMoneyness}
-use Rattle.explicit_black.specs.Quote.{Reply, reply, normalisedTimeValue, fromTimeValue}
+use Rattle.bs_option_price.specs.BsOptionPrice.{negative_abs_log_moneyness}
+use Rattle.explicit_black.specs.Quote.{Reply, reply, normalised_time_value, from_time_value}
 use Rattle.ladder.specs.declared.place.Shared.{Shared}
 
 -- the roots are those of forward and time
@@ -11,6 +11,6 @@ abbrev pub HasRoots : Shared → Type 0
 HasRoots s = (s.root_forward ≡ sqrt s.forward) × (s.root_time ≡ sqrt s.time)
 
 -- the reply where tests 1 to 6 decide nothing
-abbrev pub openReply : Float → Float → Float → Float → Float → Reply
-openReply forward time price intrinsic strike =
-    reply time (fromTimeValue (negativeAbsLogMoneyness forward strike) (normalisedTimeValue price intrinsic (sqrt forward ⊗ sqrt strike)))
+abbrev pub open_reply : Float → Float → Float → Float → Float → Reply
+open_reply forward time price intrinsic strike =
+    reply time (from_time_value (negative_abs_log_moneyness forward strike) (normalised_time_value price intrinsic (sqrt forward ⊗ sqrt strike)))

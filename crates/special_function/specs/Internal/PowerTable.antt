@@ -9,5 +9,5 @@ use Rattle.arithmetic.specs.Exp.{exp}
 abbrev pub sixteenths : ℕ → Float
 sixteenths j = round binary64 false j 16
 
-unfoldable pub powerAt : ℕ → Float
-powerAt j = exp (neg (sixteenths j ⊗ sixteenths j))
+unfoldable pub power_at : ℕ → Float
+power_at j = exp (neg (sixteenths j ⊗ sixteenths j))

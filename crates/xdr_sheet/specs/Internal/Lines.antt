@@ -1,6 +1,6 @@
 -- A line in memory: its text, how it grows, and what is said of a buffer that it is put into. Definitions only.
 use Rattle.std.specs.Prelude.{◌≡◌, ℕ, ◌+◌, cond, List, ◌++◌, length, take}
-use Rattle.xdr_sheet.specs.Text.{fitsInto, overlaid}
+use Rattle.xdr_sheet.specs.Text.{fits_into, overlaid}
 use Rattle.xdr_sheet.specs.declared.text.Line.{Line}
 use Rattle.xdr_sheet.specs.declared.text.Placed.{Placed}
 use Rattle.xdr_sheet.specs.declared.text.Placed.TheVariants.{Bytes, NoRoom}
@@ -15,8 +15,8 @@ pub record Extended (l : Line) (more : List ℕ) (r : Line) : Type 0 where
   pub count : r.length ≡ l.length + length more
 
 -- a text is put at the start of a buffer if it fits: how many bytes that were, and the buffer after it
-unfoldable pub bytesPlaced : List ℕ → List ℕ → Placed
-bytesPlaced text buffer = cond (fitsInto text (length buffer)) (Bytes (length text)) NoRoom
+unfoldable pub bytes_placed : List ℕ → List ℕ → Placed
+bytes_placed text buffer = cond (fits_into text (length buffer)) (Bytes (length text)) NoRoom
 
-unfoldable pub bufferAfter : List ℕ → List ℕ → List ℕ
-bufferAfter text buffer = cond (fitsInto text (length buffer)) (overlaid text buffer) buffer
+unfoldable pub buffer_after : List ℕ → List ℕ → List ℕ
+buffer_after text buffer = cond (fits_into text (length buffer)) (overlaid text buffer) buffer

@@ -5,9 +5,9 @@ use Rattle.xdr_sheet.specs.Internal.Lines.{written}
 use Rattle.xdr_sheet.specs.declared.printing.Printed.{Printed}
 use Rattle.xdr_sheet.specs.declared.printing.Filled.{Filled}
 
-abbrev pub viewPrinted : Printed → Step
-viewPrinted r = record { text = written r.line; letter = r.letter; next = r.next }
+abbrev pub view_printed : Printed → Step
+view_printed r = record { text = written r.line; letter = r.letter; next = r.next }
 
 -- with the buffer after the call
-abbrev pub viewFilled : Filled → List ℕ → FilledBuffer
-viewFilled r buffer = record { count = r.count; next = r.next; buffer = buffer }
+abbrev pub view_filled : Filled → List ℕ → FilledBuffer
+view_filled r buffer = record { count = r.count; next = r.next; buffer = buffer }

@@ -3,21 +3,21 @@ use Rattle.std.specs.Prelude.{◌≡◌, refl, ℕ, zero, suc, ◌+◌, ◌-◌,
 use Rattle.std.proofs.Common.{sym, ap, ◌∙◌, arith, add-one, le_trans, lt_of_le_of_lt, lit≤, inl, inr, append_assoc, append-nil, le-leb, length-append}
 use Rattle.std.proofs.lemmas.Bool.{lt-leb}
 use Rattle.arithmetic.specs.Laws.Choices.{in_both}
-use Rattle.arithmetic.specs.Laws.Numbers.{lt-or-le}
+use Rattle.arithmetic.specs.Laws.Numbers.{lt_or_le}
 use Rattle.explicit_black.specs.Quote.{Reply}
 use Rattle.explicit_black.specs.Demand.{compared}
-use Rattle.explicit_black.specs.Laws.Discount.{discounted-facts}
-use Rattle.xdr_sheet.specs.Tally.{emptyTally, tallyWith, tallyCount}
-use Rattle.xdr_sheet.specs.Text.{lineBytes, sheetLineBytes, line, closing, refusedSheet, fitsInto, overlaid}
-use Rattle.xdr_sheet.specs.Sheet.{Size, quotes, refused, size, replyFrom, replyAt, SheetReply, replied, noQuote, sheetReply}
+use Rattle.explicit_black.specs.Laws.Discount.{discounted_facts}
+use Rattle.xdr_sheet.specs.Tally.{empty_tally, tally_with, tally_count}
+use Rattle.xdr_sheet.specs.Text.{line_bytes, sheet_line_bytes, line, closing, refused_sheet, fits_into, overlaid}
+use Rattle.xdr_sheet.specs.Sheet.{Size, quotes, refused, size, reply_from, reply_at, SheetReply, replied, no_quote, sheet_reply}
 use Rattle.xdr_sheet.specs.Sheet.{lines, tally, text_of, text}
-use Rattle.xdr_sheet.specs.Laws.Sheet.{size-count, quote-there, quote-past}
-use Rattle.xdr_sheet.specs.Laws.Lines.{line-short, closing-short, refused-short, line-fits, closing-fits, refused-fits}
-use Rattle.xdr_sheet.specs.Laws.Tally.{count-with, tally-counts}
-use Rattle.xdr_sheet.specs.Printing.{start, Step, quoteStep, lastStep, refusedStep, stepAt, step_of, step}
+use Rattle.xdr_sheet.specs.Laws.Sheet.{size_count, quote_there, quote_past}
+use Rattle.xdr_sheet.specs.Laws.Lines.{line_short, closing_short, refused_short, line_fits, closing_fits, refused_fits}
+use Rattle.xdr_sheet.specs.Laws.Tally.{count_with, tally_counts}
+use Rattle.xdr_sheet.specs.Printing.{start, Step, quote_step, last_step_of, refused_step, step_at, step_of, step}
 use Rattle.xdr_sheet.specs.Printing.{upcoming, rest_of, rest, left}
-use Rattle.xdr_sheet.specs.Printing.{Part, no_part, ◌before◌, part_of, part, parts, Roomy, FilledBuffer, filledWith}
-use Rattle.xdr_sheet.specs.Internal.Printing.{viewFilled}
+use Rattle.xdr_sheet.specs.Printing.{Part, no_part, ◌before◌, part_of, part, parts, Roomy, FilledBuffer, filled_with}
+use Rattle.xdr_sheet.specs.Internal.Printing.{view_filled}
 use Rattle.xdr_sheet.specs.declared.tally.Tally.{Tally}
 use Rattle.xdr_sheet.specs.declared.printing.Progress.{Progress}
 use Rattle.xdr_sheet.specs.declared.printing.Progress.TheVariants.{Tallied, Over}
@@ -25,83 +25,83 @@ use Rattle.xdr_sheet.specs.declared.printing.Filled.{Filled}
 
 -- ---- the line after those of the quotes tallied, by what the sheet has
 module _ (s : List ℕ) (t : Tally) where
-  pub step-refused : (number count : ℕ) → refused number count ≡ size s → refusedStep number ≡ step s t
+  pub step_refused : (number count : ℕ) → refused number count ≡ size s → refused_step number ≡ step s t
   unfolding step
-  step-refused number count e = rw (← e)
+  step_refused number count e = rw (← e)
 
-  pub step-last : (n : ℕ) → quotes n ≡ size s → noQuote ≡ sheetReply s (tallyCount t) → lastStep t ≡ step s t
+  pub step_last : (n : ℕ) → quotes n ≡ size s → no_quote ≡ sheet_reply s (tally_count t) → last_step_of t ≡ step s t
   unfolding step
-  step-last n e q = rw (← e, ← q)
+  step_last n e q = rw (← e, ← q)
 
-  pub step-quote : (n : ℕ) (r : Reply) → quotes n ≡ size s → replied r ≡ sheetReply s (tallyCount t) → quoteStep t r ≡ step s t
+  pub step_quote : (n : ℕ) (r : Reply) → quotes n ≡ size s → replied r ≡ sheet_reply s (tally_count t) → quote_step t r ≡ step s t
   unfolding step
-  step-quote n r e q = rw (← e, ← q)
+  step_quote n r e q = rw (← e, ← q)
 
 -- ---- what comes after a tally: its line, and what comes after that
-rest-quotes : (s : List ℕ) (t : Tally) (n : ℕ) → quotes n ≡ size s → (k : ℕ) → n - tallyCount t ≡ k
+rest_quotes : (s : List ℕ) (t : Tally) (n : ℕ) → quotes n ≡ size s → (k : ℕ) → n - tally_count t ≡ k
     → upcoming s t k ≡ step s t ∷ rest s (step s t).next
 unfolding rest upcoming
-rest-quotes s t n e zero h = rw (← step-last s t n e (quote-past s n (tallyCount t) e (omega arith)))
-rest-quotes s t n e (suc m) h =
-    let r : Reply = replyAt s (tallyCount t) in
-    let f : n - tallyCount (tallyWith t r) ≡ m = omega (arith, count-with t r) in
-    rw (← step-quote s t n r e (quote-there s n (tallyCount t) e (omega arith)), ← e, f)
+rest_quotes s t n e zero h = rw (← step_last s t n e (quote_past s n (tally_count t) e (omega arith)))
+rest_quotes s t n e (suc m) h =
+    let r : Reply = reply_at s (tally_count t) in
+    let f : n - tally_count (tally_with t r) ≡ m = omega (arith, count_with t r) in
+    rw (← step_quote s t n r e (quote_there s n (tally_count t) e (omega arith)), ← e, f)
 
-pub rest-step : (s : List ℕ) (t : Tally) → rest s (Tallied t) ≡ step s t ∷ rest s (step s t).next
+pub rest_step : (s : List ℕ) (t : Tally) → rest s (Tallied t) ≡ step s t ∷ rest s (step s t).next
 unfolding rest step
-rest-step s t = go (size s) refl
+rest_step s t = go (size s) refl
   where
     go : (z : Size) → size s ≡ z → rest s (Tallied t) ≡ step s t ∷ rest s (step s t).next
     go (refused number count) e = rw e
-    go (quotes n) e = ap (λ (z : Size). rest_of s t z) e ∙ rest-quotes s t n (sym e) (n - tallyCount t) refl
+    go (quotes n) e = ap (λ (z : Size). rest_of s t z) e ∙ rest_quotes s t n (sym e) (n - tally_count t) refl
 
-step-short : (s : List ℕ) (t : Tally) → length (step s t).text ≤ lineBytes
+step_short : (s : List ℕ) (t : Tally) → length (step s t).text ≤ line_bytes
 unfolding step
-step-short s t = go (size s)
+step_short s t = go (size s)
   where
-    at : (q : SheetReply) → length (stepAt t q).text ≤ lineBytes
-    at (replied r) = line-short (tallyCount t + 1) r
-    at noQuote = closing-short t
+    at : (q : SheetReply) → length (step_at t q).text ≤ line_bytes
+    at (replied r) = line_short (tally_count t + 1) r
+    at no_quote = closing_short t
 
-    go : (z : Size) → length (step_of s t z).text ≤ lineBytes
-    go (quotes n) = at (sheetReply s (tallyCount t))
-    go (refused number count) = refused-short number
+    go : (z : Size) → length (step_of s t z).text ≤ line_bytes
+    go (quotes n) = at (sheet_reply s (tally_count t))
+    go (refused number count) = refused_short number
 
 -- ---- a line of a sheet after tallies that fit a u32
-reply-count : (s : List ℕ) (i : ℕ) → (compared (replyAt s i)).count < 10 ^ 4
-unfolding replyFrom
-reply-count s i = lt_of_le_of_lt (discounted-facts _ _ _ _ _ _).few (lit≤ tt)
+reply_count : (s : List ℕ) (i : ℕ) → (compared (reply_at s i)).count < 10 ^ 4
+unfolding reply_from
+reply_count s i = lt_of_le_of_lt (discounted_facts _ _ _ _ _ _).few (lit≤ tt)
 
 pub step_fits : (s : List ℕ) (t : Tally) → t.finite < 2 ^ 32 → t.infinite < 2 ^ 32 → t.refusals < 2 ^ 32
-    → length (step s t).text ≤ sheetLineBytes
+    → length (step s t).text ≤ sheet_line_bytes
 unfolding step
 step_fits s t a b c = go (size s) refl
   where
-    go : (z : Size) → size s ≡ z → length (step_of s t z).text ≤ sheetLineBytes
-    go (refused number count) e = refused-fits number
-    go (quotes n) e = elim (lt-or-le (tallyCount t) n) [
+    go : (z : Size) → size s ≡ z → length (step_of s t z).text ≤ sheet_line_bytes
+    go (refused number count) e = refused_fits number
+    go (quotes n) e = elim (lt_or_le (tally_count t) n) [
       | inl h ↦
-          rw (← quote-there s n (tallyCount t) (sym e) h)
-          (line-fits (tallyCount t + 1) (replyAt s (tallyCount t)) (omega (arith, size-count s n (sym e))) (reply-count s (tallyCount t)))
-      | inr h ↦ rw (← quote-past s n (tallyCount t) (sym e) h) (closing-fits t a b c)
+          rw (← quote_there s n (tally_count t) (sym e) h)
+          (line_fits (tally_count t + 1) (reply_at s (tally_count t)) (omega (arith, size_count s n (sym e))) (reply_count s (tally_count t)))
+      | inr h ↦ rw (← quote_past s n (tally_count t) (sym e) h) (closing_fits t a b c)
     ]
 
 -- ---- a part, a line at a time
-pub part-over : (s : List ℕ) (room : ℕ) → part s Over room ≡ no_part Over
+pub part_over : (s : List ℕ) (room : ℕ) → part s Over room ≡ no_part Over
 unfolding part
-part-over s room = refl
+part_over s room = refl
 
 module _ (s : List ℕ) (t : Tally) (room : ℕ) where
   abbrev here : List ℕ
   here = (step s t).text
 
   part_step : part s (Tallied t) room
-      ≡ cond (fitsInto here room) (here before part s (step s t).next (room - length here)) (no_part (Tallied t))
+      ≡ cond (fits_into here room) (here before part s (step s t).next (room - length here)) (no_part (Tallied t))
   unfolding part
-  part_step = rw (rest-step s t)
+  part_step = rw (rest_step s t)
 
-  pub part-line : length here ≤ room → part s (Tallied t) room ≡ here before part s (step s t).next (room - length here)
-  part-line h = part_step ∙ rw (le-leb (length here) room h)
+  pub part_line : length here ≤ room → part s (Tallied t) room ≡ here before part s (step s t).next (room - length here)
+  part_line h = part_step ∙ rw (le-leb (length here) room h)
 
   pub part_none : room < length here → part s (Tallied t) room ≡ no_part (Tallied t)
   part_none h = part_step ∙ rw (lt-leb (length here) room h)
@@ -117,95 +117,95 @@ record Splits (s : List ℕ) (ls : List Step) (q : Part) : Type 0 where
 
 after_first : (s : List ℕ) (p : Progress) (l : Step) (ls : List Step) → rest s p ≡ l ∷ ls → rest s l.next ≡ ls
 unfolding rest
-after_first s (Tallied t) l ls e = cc (rest-step s t)
+after_first s (Tallied t) l ls e = cc (rest_step s t)
 after_first s Over l ls e = absurd (omega (arith, ap length e))
 
-none-splits : (s : List ℕ) (p : Progress) (ls : List Step) → rest s p ≡ ls → Splits s ls (no_part p)
-none-splits s p ls e = record { whole = ap joined e; fewer = omega (arith, ap length e) }
+none_splits : (s : List ℕ) (p : Progress) (ls : List Step) → rest s p ≡ ls → Splits s ls (no_part p)
+none_splits s p ls e = record { whole = ap joined e; fewer = omega (arith, ap length e) }
 
-part-splits : (s : List ℕ) (room : ℕ) (p : Progress) (ls : List Step) → rest s p ≡ ls → Splits s ls (part_of room p ls)
+part_splits : (s : List ℕ) (room : ℕ) (p : Progress) (ls : List Step) → rest s p ≡ ls → Splits s ls (part_of room p ls)
 unfolding part_of
-part-splits s room p [] e = none-splits s p [] e
-part-splits s room p (l ∷ ls) e =
+part_splits s room p [] e = none_splits s p [] e
+part_splits s room p (l ∷ ls) e =
     let q : Part = part_of (room - length l.text) l.next ls in
-    let h : Splits s ls q = part-splits s (room - length l.text) l.next ls (after_first s p l ls e) in
+    let h : Splits s ls q = part_splits s (room - length l.text) l.next ls (after_first s p l ls e) in
     let more : Splits s (l ∷ ls) (l.text before q) = record {
       whole = append_assoc l.text q.text (joined (rest s q.next)) ∙ ap (λ (x : List ℕ). l.text ++ x) h.whole;
       fewer = omega (arith, h.fewer);
     } in
-    in_both (Splits s (l ∷ ls)) (fitsInto l.text room) more (none-splits s p (l ∷ ls) e)
+    in_both (Splits s (l ∷ ls)) (fits_into l.text room) more (none_splits s p (l ∷ ls) e)
 
 -- with room for a line fewer lines are left
-pub part_falls : (s : List ℕ) (t : Tally) (room : ℕ) → lineBytes ≤ room
+pub part_falls : (s : List ℕ) (t : Tally) (room : ℕ) → line_bytes ≤ room
     → left s (part s (Tallied t) room).next < left s (Tallied t)
 unfolding part
 part_falls s t room h =
     let l : Step = step s t in
-    rw (part-line s t room (le_trans (step-short s t) h), rest-step s t)
-    (omega (arith, (part-splits s (room - length l.text) l.next (rest s l.next) refl).fewer))
+    rw (part_line s t room (le_trans (step_short s t) h), rest_step s t)
+    (omega (arith, (part_splits s (room - length l.text) l.next (rest s l.next) refl).fewer))
 
 -- for the caller of `fill`: the bytes are within the buffer, and fewer lines are left
 module _ (s : List ℕ) (p : Progress) (buffer : List ℕ) (r : Filled) (after : List ℕ)
-    (h : viewFilled r after ≡ filledWith buffer (part s p (length buffer))) where
-  pub fill-within : length after ≡ length buffer → r.count ≤ length after
-  fill-within e =
+    (h : view_filled r after ≡ filled_with buffer (part s p (length buffer))) where
+  pub fill_within : length after ≡ length buffer → r.count ≤ length after
+  fill_within e =
       let x : List ℕ = (part s p (length buffer)).text in
       let c : r.count ≡ length x = ap (λ (f : FilledBuffer). f.count) h in
       let b : length after ≡ length (overlaid x buffer) = ap (λ (f : FilledBuffer). length f.buffer) h in
       omega (arith, length-append x (drop (length x) buffer))
 
-  pub fill-falls : {t : Tally} → p ≡ Tallied t → lineBytes ≤ length buffer → left s r.next < left s p
-  fill-falls {t} e g = rw (ap (λ (f : FilledBuffer). f.next) h, e) (part_falls s t (length buffer) g)
+  pub fill_falls : {t : Tally} → p ≡ Tallied t → line_bytes ≤ length buffer → left s r.next < left s p
+  fill_falls {t} e g = rw (ap (λ (f : FilledBuffer). f.next) h, e) (part_falls s t (length buffer) g)
 
 -- ---- the parts for some buffers
-parts-split : (s : List ℕ) (p : Progress) (rooms : List ℕ)
+parts_split : (s : List ℕ) (p : Progress) (rooms : List ℕ)
     → (parts s p rooms).text ++ joined (rest s (parts s p rooms).next) ≡ joined (rest s p)
 unfolding parts
-parts-split s p [] = refl
-parts-split s p (room ∷ rooms) =
+parts_split s p [] = refl
+parts_split s p (room ∷ rooms) =
     let q : Part = part s p room in
     append_assoc q.text (parts s q.next rooms).text (joined (rest s (parts s q.next rooms).next))
-    ∙ ap (λ (x : List ℕ). q.text ++ x) (parts-split s q.next rooms)
-    ∙ (part-splits s room p (rest s p) refl).whole
+    ∙ ap (λ (x : List ℕ). q.text ++ x) (parts_split s q.next rooms)
+    ∙ (part_splits s room p (rest s p) refl).whole
 
-parts-end : (s : List ℕ) (p : Progress) (rooms : List ℕ) → Roomy rooms → left s p ≤ length rooms → (parts s p rooms).next ≡ Over
+parts_end : (s : List ℕ) (p : Progress) (rooms : List ℕ) → Roomy rooms → left s p ≤ length rooms → (parts s p rooms).next ≡ Over
 unfolding parts rest
-parts-end s Over [] h g = refl
-parts-end s (Tallied t) [] h g = absurd (omega (arith, ap length (rest-step s t)))
-parts-end s Over (room ∷ rooms) h g = parts-end s Over rooms h.1 (omega arith)
-parts-end s (Tallied t) (room ∷ rooms) h g =
-    parts-end s (part s (Tallied t) room).next rooms h.1 (omega (arith, part_falls s t room h.0))
+parts_end s Over [] h g = refl
+parts_end s (Tallied t) [] h g = absurd (omega (arith, ap length (rest_step s t)))
+parts_end s Over (room ∷ rooms) h g = parts_end s Over rooms h.1 (omega arith)
+parts_end s (Tallied t) (room ∷ rooms) h g =
+    parts_end s (part s (Tallied t) room).next rooms h.1 (omega (arith, part_falls s t room h.0))
 
 -- ---- all that comes after the start
 -- after the lines of i quotes, where k are left
-from-quote : (s : List ℕ) (n k i : ℕ) → i + k ≡ n → lines s i ++ joined (upcoming s (tally s i) k) ≡ lines s n ++ closing (tally s n)
+from_quote_lem : (s : List ℕ) (n k i : ℕ) → i + k ≡ n → lines s i ++ joined (upcoming s (tally s i) k) ≡ lines s n ++ closing (tally s n)
 unfolding upcoming lines tally
-from-quote s n zero i h =
+from_quote_lem s n zero i h =
     let j : i ≡ n = omega arith in
     rw (j, append-nil (closing (tally s n)))
-from-quote s n (suc k) i h =
-    rw (tally-counts s i, add-one i)
-    (sym (append_assoc (lines s i) (line (suc i) (replyAt s i)) (joined (upcoming s (tally s (suc i)) k)))
-    ∙ from-quote s n k (suc i) (omega arith))
+from_quote_lem s n (suc k) i h =
+    rw (tally_counts s i, add-one i)
+    (sym (append_assoc (lines s i) (line (suc i) (reply_at s i)) (joined (upcoming s (tally s (suc i)) k)))
+    ∙ from_quote_lem s n k (suc i) (omega arith))
 
-start-whole : (s : List ℕ) → joined (rest s start) ≡ text s
+start_whole : (s : List ℕ) → joined (rest s start) ≡ text s
 unfolding rest text lines tally
-start-whole s = go (size s)
+start_whole s = go (size s)
   where
-    go : (z : Size) → joined (rest_of s emptyTally z) ≡ text_of s z
-    go (refused number count) = append-nil (refusedSheet number)
+    go : (z : Size) → joined (rest_of s empty_tally z) ≡ text_of s z
+    go (refused number count) = append-nil (refused_sheet number)
     go (quotes n) =
         let f : n - 0 ≡ n = omega arith in
-        rw f (from-quote s n n 0 (omega arith))
+        rw f (from_quote_lem s n n 0 (omega arith))
 
 -- ---- THE WHOLE TEXT: parts in any buffers are the text once the last line is printed, and it is printed after as many buffers with room
 -- for a line as there are lines
-pub text-once-over : (s rooms : List ℕ) → (parts s start rooms).next ≡ Over → (parts s start rooms).text ≡ text s
+pub text_once_over : (s rooms : List ℕ) → (parts s start rooms).next ≡ Over → (parts s start rooms).text ≡ text s
 unfolding rest
-text-once-over s rooms e =
-    let whole : (parts s start rooms).text ++ joined (rest s Over) ≡ joined (rest s start) = rw e at (parts-split s start rooms) in
-    sym (append-nil (parts s start rooms).text) ∙ whole ∙ start-whole s
+text_once_over s rooms e =
+    let whole : (parts s start rooms).text ++ joined (rest s Over) ≡ joined (rest s start) = rw e at (parts_split s start rooms) in
+    sym (append-nil (parts s start rooms).text) ∙ whole ∙ start_whole s
 
-pub whole-text : (s rooms : List ℕ) → Roomy rooms → left s start ≤ length rooms
+pub whole_text : (s rooms : List ℕ) → Roomy rooms → left s start ≤ length rooms
     → ((parts s start rooms).text ≡ text s) × ((parts s start rooms).next ≡ Over)
-whole-text s rooms h g = (text-once-over s rooms (parts-end s start rooms h g), parts-end s start rooms h g)
+whole_text s rooms h g = (text_once_over s rooms (parts_end s start rooms h g), parts_end s start rooms h g)

@@ -1,7 +1,7 @@
 -- `basic::min` meets its contract: a law of `MaxMin` for each path. Assumes nothing.
 use Rattle.std.proofs.Common.{◌≡◌, cond}
 use Rattle.arithmetic.specs.Basic.{min}
-use Rattle.arithmetic.specs.Laws.Signs.{has-bits}
+use Rattle.arithmetic.specs.Laws.Signs.{has_bits}
 use Rattle.arithmetic.proofs.MaxMin.{first-nan, second-nan, by_first}
 use Rattle.arithmetic.proofs.basic.min.Statement.{statement}
 use Rattle.arithmetic.proofs.basic.min.Tie as tie
@@ -20,6 +20,6 @@ min-spec =
     tie.close
     (tie.spec (λ c. let a = c.before.args in first-nan a.x a.y a.y a.x c.if1.true)
     (λ c. let a = c.before.before.args in second-nan a.x a.y a.y a.x c.before.if1.false c.if2.true)
-    (λ c κs. has-bits _ c.before.if1.false)
+    (λ c κs. has_bits _ c.before.if1.false)
     (λ c. rw c.if3.true at (by-choice c.before))
     (λ c. rw c.if3.false at (by-choice c.before)))

@@ -3,7 +3,7 @@ use Rattle.std.proofs.Common.{◌∙◌}
 use denote.Floats.{passes}
 use lib.Ieee.{is_nan}
 use lib.Ieee.Bits.{is_false}
-use Rattle.arithmetic.specs.Laws.Signs.{sign-test}
+use Rattle.arithmetic.specs.Laws.Signs.{sign_test}
 use Rattle.arithmetic.proofs.basic.takes_first.Statement.{statement}
 use Rattle.arithmetic.proofs.basic.takes_first.Tie as tie
 
@@ -20,7 +20,7 @@ returns-3 : tie.Need-returns-3
 returns-3 c =
     let start = c.before.before in
     let x = start.args.x in
-    sign-test x (passes _ start.well-formed.0.1) (is_false (is_nan x) start.requires)
+    sign_test x (passes _ start.well-formed.0.1) (is_false (is_nan x) start.requires)
     ∙ rw (c.before.if1.false, c.if2.false)
 
 pub takes-first-spec : {M : Type 1} → statement M

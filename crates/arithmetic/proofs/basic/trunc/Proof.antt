@@ -2,8 +2,8 @@
 use Rattle.std.proofs.Common.{not, T, rules}
 use denote.Floats.{passes}
 use lib.Ieee.{binary64, fits, is_nan, to_bits}
-use Rattle.arithmetic.specs.Laws.Signs.{has-bits}
-use Rattle.arithmetic.proofs.Trunc.{trunc-of-nan, trunc-zero, zero-no-nan, trunc-cleared, cleared-no-nan, trunc-whole}
+use Rattle.arithmetic.specs.Laws.Signs.{has_bits}
+use Rattle.arithmetic.proofs.Trunc.{trunc_of_nan, trunc-zero, zero_no_nan, trunc-cleared, cleared-no-nan, trunc-whole}
 use Rattle.arithmetic.proofs.basic.trunc.Statement.{statement}
 use Rattle.arithmetic.proofs.basic.trunc.Tie as tie
 
@@ -11,16 +11,16 @@ held : (c : tie.Start) → T (fits binary64 c.args.x)
 held c = passes _ c.well-formed.0.1
 
 number : (c : tie.Else1) → T (not (is_nan c.before.args.x))
-number c = has-bits c.before.args.x c.if1.false
+number c = has_bits c.before.args.x c.if1.false
 
 returns : tie.Need-returns
-returns c = trunc-of-nan c.before.args.x c.if1.true
+returns c = trunc_of_nan c.before.args.x c.if1.true
 
 float-to-bits-bits : tie.Need-float-to-bits-bits
 float-to-bits-bits c = number c
 
 float-from-bits-result : tie.Need-float-from-bits-result
-float-from-bits-result c = zero-no-nan (to_bits binary64 c.before.before.args.x)
+float-from-bits-result c = zero_no_nan (to_bits binary64 c.before.before.args.x)
 
 returns-2 : tie.Need-returns-2
 returns-2 c =

@@ -10,8 +10,8 @@ near-zero-requires c κs = passed c.if1.true c.before.is-near-zero.ensures
 fast-requires : tie.Need-fast-requires
 fast-requires c κs =
     let at_clear = c.before in
-    let in-range = at_clear.before in
-    (passed in-range.if2.true in-range.before.is-in-fast-range.ensures, passed c.if3.true at_clear.is-clear-of-tie.ensures)
+    let in_range = at_clear.before in
+    (passed in_range.if2.true in_range.before.is-in-fast-range.ensures, passed c.if3.true at_clear.is-clear-of-tie.ensures)
 
 pub exp-spec : {M : Type 1} → statement M
 exp-spec =

@@ -1,6 +1,6 @@
 -- `exp::exp_product` meets its contract: `fast` is called where both its tests hold of both arguments. Assumes nothing.
 use Rattle.std.proofs.Common.{T}
-use Rattle.arithmetic.specs.Internal.Exp.{inFastRange, clearOfTie}
+use Rattle.arithmetic.specs.Internal.Exp.{in_fast_range, clear_of_tie}
 use Rattle.arithmetic.proofs.ExpFast.{passed, both_true}
 use Rattle.arithmetic.proofs.exp.exp_product.Statement.{statement}
 use Rattle.arithmetic.proofs.exp.exp_product.Tie as tie
@@ -9,7 +9,7 @@ use Rattle.arithmetic.proofs.exp.exp_product.Tie as tie
 abbrev start : tie.After-is-in-fast-range2 → tie.Start
 start c = c.before.before
 
-both-in-range : (c : tie.Then1) → let a = (start c.before).args in T (inFastRange a.x) × T (inFastRange a.y)
+both-in-range : (c : tie.Then1) → let a = (start c.before).args in T (in_fast_range a.x) × T (in_fast_range a.y)
 both-in-range c =
     let at_y = c.before in
     let at_x = at_y.before in
@@ -17,7 +17,7 @@ both-in-range c =
     (passed both.0 at_x.is-in-fast-range.ensures, passed both.1 at_y.is-in-fast-range2.ensures)
 
 both-clear : (c : tie.Then2)
-    → let at_x = c.before.before in let a = (start at_x.before.before).args in T (clearOfTie a.x) × T (clearOfTie a.y)
+    → let at_x = c.before.before in let a = (start at_x.before.before).args in T (clear_of_tie a.x) × T (clear_of_tie a.y)
 both-clear c =
     let at_y = c.before in
     let at_x = at_y.before in

@@ -2,7 +2,7 @@
 use Rattle.std.proofs.Common.{T, arith}
 use denote.Floats.{passes}
 use lib.Ieee.{binary64, fits}
-use Rattle.arithmetic.proofs.ExpFast.{sum-no-nan, pattern-ge, pattern_lt, power-no-nan, fast-is}
+use Rattle.arithmetic.proofs.ExpFast.{sum_no_nan, pattern-ge, pattern_lt, power-no-nan, fast-is}
 use Rattle.arithmetic.proofs.exp.fast.Statement.{statement}
 use Rattle.arithmetic.proofs.exp.fast.Tie as tie
 
@@ -10,7 +10,7 @@ held : (c : tie.Start) → T (fits binary64 c.args.x)
 held c = passes _ c.well-formed.0.1
 
 float-to-bits-field : tie.Need-float-to-bits-field
-float-to-bits-field c = sum-no-nan c.args.x (held c) c.requires.0
+float-to-bits-field c = sum_no_nan c.args.x (held c) c.requires.0
 
 sub-field : tie.Need-overflow-sub-field
 sub-field c = pattern-ge c.args.x (held c) c.requires.0

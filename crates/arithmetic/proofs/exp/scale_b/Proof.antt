@@ -3,7 +3,7 @@ use Rattle.std.proofs.Common.{ℕ, T, sym, ap, ◌∙◌, lit≤, rules}
 use denote.Floats.{passes}
 use lib.Ieee.{binary64, fits, minus}
 use Rattle.arithmetic.specs.Operations.{◌⊗◌, half, two}
-use Rattle.arithmetic.specs.Exp.{scaleB}
+use Rattle.arithmetic.specs.Exp.{scale_b}
 use Rattle.arithmetic.specs.Laws.PowersOfTwo.{times_power, halved, twice}
 use Rattle.arithmetic.proofs.exp.scale_b.Statement.{statement}
 use Rattle.arithmetic.proofs.exp.scale_b.Tie as tie
@@ -17,7 +17,7 @@ returns c =
     let y = start.args.y in
     times_power (y ⊗ half) c.power.result 1 c.power.ensures
     ∙ halved y (held start)
-    ∙ ap (λ (e : ℕ). scaleB y (minus e 1075)) (sym c.before.if1.true)
+    ∙ ap (λ (e : ℕ). scale_b y (minus e 1075)) (sym c.before.if1.true)
 
 returns-2 : tie.Need-returns-2
 returns-2 c =
@@ -26,7 +26,7 @@ returns-2 c =
     let y = start.args.y in
     times_power (y ⊗ two) c.power2.result 2098 c.power2.ensures
     ∙ twice y 2098 (held start) (lit≤ tt)
-    ∙ ap (λ (e : ℕ). scaleB y (minus e 1075)) (sym at_last.if2.true)
+    ∙ ap (λ (e : ℕ). scale_b y (minus e 1075)) (sym at_last.if2.true)
 
 returns-3 : tie.Need-returns-3
 returns-3 c =

@@ -1,13 +1,13 @@
--- `ln::decompose_bits` meets its contract: k is the difference of two whole numbers, by `sub-whole`. Assumes nothing.
+-- `ln::decompose_bits` meets its contract: k is the difference of two whole numbers, by `sub_whole`. Assumes nothing.
 use Rattle.std.proofs.Common.{◌≡◌, ◌-◌, ◌/◌, pos, refl, ap, ◌∙◌, arith, lit≤, rules}
 use lib.Ieee.{binary64, sub, of_int, of_bits}
-use Rattle.arithmetic.specs.Laws.Patterns.{bits-no-nan}
-use Rattle.arithmetic.proofs.LnPaths.{sub-whole}
+use Rattle.arithmetic.specs.Laws.Patterns.{bits_no_nan}
+use Rattle.arithmetic.proofs.LnPaths.{sub_whole}
 use Rattle.arithmetic.proofs.ln.decompose_bits.Statement.{statement}
 use Rattle.arithmetic.proofs.ln.decompose_bits.Tie as tie
 
 float-from-bits-t5 : tie.Need-float-from-bits-t5
-float-from-bits-t5 c = bits-no-nan _ (omega arith)
+float-from-bits-t5 c = bits_no_nan _ (omega arith)
 
 literal : of_bits binary64 4652438317399277568 ≡ of_int binary64 (pos 1074)
 unfolding of_bits of_int
@@ -16,7 +16,7 @@ literal = refl
 returns : tie.Need-returns
 returns c =
     let n = (c.before.args.b - 0x6a09e00000000) / 4503599627370496 in
-    (refl, ap (sub binary64 (of_int binary64 (pos n))) literal ∙ sub-whole n 1074 (omega arith) (lit≤ tt))
+    (refl, ap (sub binary64 (of_int binary64 (pos n))) literal ∙ sub_whole n 1074 (omega arith) (lit≤ tt))
 
 pub decompose-bits-spec : {M : Type 1} → statement M
 decompose-bits-spec = tie.close (tie.spec (λ c. search rules) (λ c. search rules) float-from-bits-t5 (λ c. search rules) (λ c. search rules)

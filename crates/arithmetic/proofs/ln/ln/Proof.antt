@@ -2,11 +2,11 @@
 use Rattle.std.proofs.Common.{T, arith, rules, ltb-true, leb-true}
 use denote.Floats.{passes}
 use lib.Ieee.{binary64, fits}
-use Rattle.arithmetic.specs.Laws.Patterns.{bits-no-nan}
-use Rattle.arithmetic.specs.Laws.Logarithm.{positive-bits}
+use Rattle.arithmetic.specs.Laws.Patterns.{bits_no_nan}
+use Rattle.arithmetic.specs.Laws.Logarithm.{positive_bits}
 use Rattle.arithmetic.proofs.ExpFast.{both_true}
-use Rattle.arithmetic.proofs.LnPaths.{NormalParts, SubnormalParts, positive-no-nan, normal-parts, subnormal-parts}
-use Rattle.arithmetic.proofs.LnPaths.{ln-near-one, ln-parts, ln-infinity, ln-zero, ln-below}
+use Rattle.arithmetic.proofs.LnPaths.{NormalParts, SubnormalParts, positive_no_nan, normal_parts, subnormal_parts}
+use Rattle.arithmetic.proofs.LnPaths.{ln-near-one, ln_parts, ln_infinity, ln_zero, ln_below}
 use Rattle.arithmetic.proofs.ln.ln.Statement.{statement}
 use Rattle.arithmetic.proofs.ln.ln.Tie as tie
 
@@ -15,44 +15,44 @@ held c = passes _ c.well-formed.0.1
 
 -- a normal x
 parts : (c : tie.Then2) → NormalParts c.before.before.args.x
-parts c = let start = c.before.before in normal-parts start.args.x (held start) c.before.if1.true c.if2.true
+parts c = let start = c.before.before in normal_parts start.args.x (held start) c.before.if1.true c.if2.true
 
 add-of-pattern : tie.Need-overflow-add-of-pattern
 add-of-pattern c =
     let normal = c.before in
     let start = normal.before.before in
-    omega (arith, positive-bits start.args.x (parts normal).0 (held start))
+    omega (arith, positive_bits start.args.x (parts normal).0 (held start))
 
 returns : tie.Need-returns
 returns c =
     let near = c.before in
     let normal = near.before in
     let start = normal.before.before in
-    let (from-least, below-twice) = both_true _ _ near.if3.true in
-    ln-near-one start.args.x (held start) (leb-true _ _ from-least) (ltb-true _ _ below-twice) _ (parts normal) c.series.ensures
+    let (from_least_lem, below-twice) = both_true _ _ near.if3.true in
+    ln-near-one start.args.x (held start) (leb-true _ _ from_least_lem) (ltb-true _ _ below-twice) _ (parts normal) c.series.ensures
 
 returns-2 : tie.Need-returns-2
-returns-2 c = let normal = c.before.before in ln-parts _ _ _ (parts normal).0 (parts normal).1 c.of-pattern.ensures
+returns-2 c = let normal = c.before.before in ln_parts _ _ _ (parts normal).0 (parts normal).1 c.of-pattern.ensures
 
 returns-3 : tie.Need-returns-3
-returns-3 c = ln-infinity c.before.before.args.x c.before.if1.true c.if2.false
+returns-3 c = ln_infinity c.before.before.args.x c.before.if1.true c.if2.false
 
 -- a subnormal x
 low_parts : (c : tie.Then4) → SubnormalParts c.before.before.args.x
-low_parts c = let start = c.before.before in subnormal-parts start.args.x (held start) c.before.if1.false c.if4.true
+low_parts c = let start = c.before.before in subnormal_parts start.args.x (held start) c.before.if1.false c.if4.true
 
 returns-4 : tie.Need-returns-4
-returns-4 c = ln-parts _ _ _ (low_parts c.before).0 (low_parts c.before).2 c.of-pattern2.ensures
+returns-4 c = ln_parts _ _ _ (low_parts c.before).0 (low_parts c.before).2 c.of-pattern2.ensures
 
 returns-5 : tie.Need-returns-5
-returns-5 c = ln-zero c.before.before.before.args.x c.if5.true
+returns-5 c = ln_zero c.before.before.before.args.x c.if5.true
 
 returns-6 : tie.Need-returns-6
-returns-6 c = ln-below c.before.before.before.args.x c.before.if4.false c.if5.false
+returns-6 c = ln_below c.before.before.before.args.x c.before.if4.false c.if5.false
 
 pub ln-spec : {M : Type 1} → statement M
 ln-spec =
     tie.close
-    (tie.spec (λ c. bits-no-nan _ (omega arith)) (λ c. positive-no-nan _ (parts c).0) (λ c κs. tt) returns add-of-pattern (λ c κs. search rules)
-    returns-2 returns-3 (λ c. positive-no-nan _ (low_parts c).1) (λ c κs. (low_parts c).3) returns-4 (λ c. bits-no-nan _ (omega arith))
+    (tie.spec (λ c. bits_no_nan _ (omega arith)) (λ c. positive_no_nan _ (parts c).0) (λ c κs. tt) returns add-of-pattern (λ c κs. search rules)
+    returns-2 returns-3 (λ c. positive_no_nan _ (low_parts c).1) (λ c κs. (low_parts c).3) returns-4 (λ c. bits_no_nan _ (omega arith))
     returns-5 returns-6)

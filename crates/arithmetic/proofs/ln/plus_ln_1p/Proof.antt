@@ -13,8 +13,8 @@ returns c =
     let start = at-near.before in
     let u = start.args.u in
     let (below-limit, above-limit) = both_true _ _ at-near.if1.true in
-    let (equal, below-zero) = both_true _ _ c.if2.true in
-    plus-ln1p u (passes _ start.well-formed.1.0.1) (near u below-limit above-limit) start.args.y equal below-zero
+    let (equal, below_zero) = both_true _ _ c.if2.true in
+    plus-ln1p u (passes _ start.well-formed.1.0.1) (near u below-limit above-limit) start.args.y equal below_zero
 
 returns-2 : tie.Need-returns-2
 returns-2 c = ap (◌⊕◌ c.before.before.args.y) c.ln-1p.ensures

@@ -1,12 +1,12 @@
 -- `ln::series` meets its contract: it is its definition, and NaN where its odd terms are. Assumes nothing.
 use Rattle.std.proofs.Common.{refl}
 use Rattle.arithmetic.specs.Ln.{series}
-use Rattle.arithmetic.proofs.LnPaths.{series-nan}
+use Rattle.arithmetic.proofs.LnPaths.{series_nan}
 use Rattle.arithmetic.proofs.ln.series.Statement.{statement}
 use Rattle.arithmetic.proofs.ln.series.Tie as tie
 
 returns : tie.Need-returns
-returns c = let start = c.before in series-nan start.args.f start.args.k start.args.kl c.if1.true
+returns c = let start = c.before in series_nan start.args.f start.args.k start.args.kl c.if1.true
 
 returns-2 : tie.Need-returns-2
 unfolding series

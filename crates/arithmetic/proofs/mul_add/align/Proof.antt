@@ -1,7 +1,7 @@
 -- `mul_add::align` meets its contract: a law of `MulAddAlign` for each of the four ways to one scale. Assumes nothing.
 use Rattle.std.proofs.Common.{◌≡◌, ◌+◌, ◌-ℤ◌, le_refl, lit≤, rules}
 use Rattle.arithmetic.specs.Internal.Exponent.{above}
-use Rattle.arithmetic.proofs.Exponents.{held-is, whole-fewer, moved-asks, moved-gives}
+use Rattle.arithmetic.proofs.Exponents.{held_is, whole_fewer, moved-asks, moved-gives}
 use Rattle.arithmetic.proofs.MulAddAlign.{product-in-range, addend-in-range, above-order, above-asks, above-gives}
 use Rattle.arithmetic.proofs.MulAddAlign.{below-order, below-asks, below-gives, addend-lowered, product-lowered}
 use Rattle.arithmetic.proofs.MulAddAlign.{product-fits, addend-fits, near-above, far-above, near-below, far-below}
@@ -47,10 +47,10 @@ up-requires-3 c κs =
     (search rules, product-fits s.args.p s.requires 20 (le_refl 20))
 
 jam-requires : tie.Need-jam-requires
-jam-requires c κs = whole-fewer _ 64 c.before.distance.ensures.1
+jam-requires c κs = whole_fewer _ 64 c.before.distance.ensures.1
 
 jam-requires-2 : tie.Need-jam-requires-2
-jam-requires-2 c κs = let at-distance = c.before.before in whole-fewer _ 20 at-distance.distance2.ensures.1
+jam-requires-2 c κs = let at-distance = c.before.before in whole_fewer _ 20 at-distance.distance2.ensures.1
 
 lowered-requires : tie.Need-lowered-requires
 lowered-requires c κs =
@@ -71,7 +71,7 @@ returns c =
     let at-near = c.before in
     let at-distance = at-near.before in
     let s = at-distance.before.before in
-    rw (held-is s.args.ep (product-in-range s.args.p s.requires))
+    rw (held_is s.args.ep (product-in-range s.args.p s.requires))
     (near-above s.args.p s.requires _ (apart_above at-distance) at-near.if2.true c.up.result c.up.ensures)
 
 returns-2 : tie.Need-returns-2
@@ -88,7 +88,7 @@ returns-3 c =
     let at-near = c.before in
     let at-distance = at-near.before in
     let s = at-distance.before.before in
-    rw (held-is s.args.em (addend-in-range s.args.p s.requires))
+    rw (held_is s.args.em (addend-in-range s.args.p s.requires))
     (near-below s.args.p s.requires _ (apart_below at-distance) at-near.if3.true c.up2.result c.up2.ensures)
 
 returns-4 : tie.Need-returns-4

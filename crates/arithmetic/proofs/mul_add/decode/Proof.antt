@@ -4,8 +4,8 @@ use lib.Signed.{le_z_yes}
 use denote.Floats.{passes}
 use lib.Bits.{bit_and, mask_lt}
 use lib.Ieee.{binary64, fits, to_bits}
-use Rattle.arithmetic.specs.Laws.Numbers.{false-not}
-use Rattle.arithmetic.specs.Laws.Compare.{finite-no-nan}
+use Rattle.arithmetic.specs.Laws.Numbers.{false_not}
+use Rattle.arithmetic.specs.Laws.Compare.{finite_no_nan}
 use Rattle.arithmetic.specs.Internal.Exponent.{InRange}
 use Rattle.arithmetic.proofs.Exponents.{written, sum-asks, sum-gives}
 use Rattle.arithmetic.proofs.MulAddDecode.{decoded-subnormal, field-exponent, decoded-normal}
@@ -20,11 +20,11 @@ field_is : (c : tie.After-field) → c.field.result ≡ pos (bit_and (to_bits bi
 field_is c = c.field.ensures.0
 
 -- which is not 0
-not-zero : (c : tie.Else1) → bit_and (to_bits binary64 c.before.before.args.x / 2 ^ 52) 0x7ff ≡ 0 → ⊥
-not-zero c e = c.if1.false (ap (of_z w16) (field_is c.before) ∙ e)
+not_zero : (c : tie.Else1) → bit_and (to_bits binary64 c.before.before.args.x / 2 ^ 52) 0x7ff ≡ 0 → ⊥
+not_zero c e = c.if1.false (ap (of_z w16) (field_is c.before) ∙ e)
 
 float-to-bits-bits : tie.Need-float-to-bits-bits
-float-to-bits-bits c = false-not _ (finite-no-nan c.args.x c.requires)
+float-to-bits-bits c = false_not _ (finite_no_nan c.args.x c.requires)
 
 add-t8 : tie.Need-overflow-add-t8
 add-t8 c = omega (arith, mask_lt (to_bits binary64 c.before.before.args.x) 52)
@@ -36,7 +36,7 @@ offset = record { least = le_z_yes tt; most = le_z_yes tt }
 sum-requires : tie.Need-sum-requires
 sum-requires c κs =
     let start = c.before.before in
-    let exponent = field-exponent start.args.x (in-format start) start.requires (not-zero c) in
+    let exponent = field-exponent start.args.x (in-format start) start.requires (not_zero c) in
     sum-asks _ _ c.before.field.ensures.1 offset (rw (field_is c.before) exponent.in-range)
 
 returns : tie.Need-returns
@@ -50,7 +50,7 @@ returns-2 c =
     let at_field = c.before.before in
     let start = at_field.before in
     let is = sum-gives _ _ at_field.field.ensures.1 offset _ c.sum.ensures ∙ ap (λ (z : ℤ). z +ℤ negsuc 1074) (field_is at_field) in
-    rw is (decoded-normal start.args.x (in-format start) start.requires (not-zero c.before))
+    rw is (decoded-normal start.args.x (in-format start) start.requires (not_zero c.before))
 
 pub decode-spec : {M : Type 1} → statement M
 decode-spec = tie.close (tie.spec float-to-bits-bits (λ c κs. search rules) add-t8 sum-requires returns returns-2)

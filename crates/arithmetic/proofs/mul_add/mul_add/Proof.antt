@@ -7,9 +7,9 @@ use denote.Floats.{passes}
 use Rattle.arithmetic.specs.Internal.Pair.{val}
 use Rattle.arithmetic.specs.Internal.Exponent.{InRange}
 use Rattle.arithmetic.specs.Internal.MulAdd.{Aligned}
-use Rattle.arithmetic.proofs.Exponents.{held-is, of-held}
+use Rattle.arithmetic.proofs.Exponents.{held_is, of_held}
 use Rattle.arithmetic.proofs.MulAddAlign.{operands}
-use Rattle.arithmetic.proofs.MulAddOperands.{first-special, second-special, third-special, mul-add-of-parts}
+use Rattle.arithmetic.proofs.MulAddOperands.{first_special, second_special, third_special, mul_add_of_parts}
 use Rattle.arithmetic.proofs.mul_add.mul_add.Statement.{statement}
 use Rattle.arithmetic.proofs.mul_add.mul_add.Tie as tie
 
@@ -45,7 +45,7 @@ align-requires c κs =
     let of-b = at-product.before in
     let of-a = of-b.before in
     let of-x = of-a.before in
-    rw (held-is _ (product-in-range at-exponent), held-is _ (addend-in-range of-b))
+    rw (held_is _ (product-in-range at-exponent), held_is _ (addend-in-range of-b))
     (operands of-x.decode.result of-a.decode2.result of-b.decode3.result at-product.product.result at-exponent.product-exponent.result
     of-x.decode.ensures of-a.decode2.ensures of-b.decode3.ensures at-product.product.ensures at-exponent.product-exponent.ensures)
 
@@ -58,7 +58,7 @@ aligned c =
     let at-exponent = c.before.before in
     let at-product = at-exponent.before in
     let of-b = at-product.before in
-    of-held (λ (i j : ℤ). Aligned (val at-product.product.result) i of-b.decode3.result.m j c.align.result) _ _
+    of_held (λ (i j : ℤ). Aligned (val at-product.product.result) i of-b.decode3.result.m j c.align.result) _ _
     (product-in-range at-exponent) (addend-in-range of-b) c.align.ensures
 
 returns : tie.Need-returns
@@ -74,7 +74,7 @@ returns c =
     let b = of-b.decode3.result in
     c.sum-terms.ensures
     ∙ sym ((aligned at-align).same (unlike x.negative a.negative) b.negative)
-    ∙ mul-add-of-parts x a b at-product.product.result at-exponent.product-exponent.result
+    ∙ mul_add_of_parts x a b at-product.product.result at-exponent.product-exponent.result
     of-x.decode.ensures of-a.decode2.ensures of-b.decode3.ensures at-product.product.ensures at-exponent.product-exponent.ensures
 
 returns-2 : tie.Need-returns-2
@@ -82,18 +82,18 @@ returns-2 c =
     let at_a = c.before.before in
     let at_x = at_a.before.before in
     let args = at_x.before.before.args in
-    third-special args.x args.a args.b (x-finite at_x) (a-finite at_a) (sym c.before.is-finite3.ensures ∙ c.if3.false)
+    third_special args.x args.a args.b (x-finite at_x) (a-finite at_a) (sym c.before.is-finite3.ensures ∙ c.if3.false)
 
 returns-3 : tie.Need-returns-3
 returns-3 c =
     let at_x = c.before.before in
     let args = at_x.before.before.args in
-    second-special args.x args.a args.b (x-finite at_x) (sym c.before.is-finite2.ensures ∙ c.if2.false)
+    second_special args.x args.a args.b (x-finite at_x) (sym c.before.is-finite2.ensures ∙ c.if2.false)
 
 returns-4 : tie.Need-returns-4
 returns-4 c =
     let args = c.before.before.args in
-    first-special args.x args.a args.b (sym c.before.is-finite.ensures ∙ c.if1.false)
+    first_special args.x args.a args.b (sym c.before.is-finite.ensures ∙ c.if1.false)
 
 pub mul-add-spec : {M : Type 1} → statement M
 mul-add-spec =

@@ -4,7 +4,7 @@ use lib.Ieee.{binary64, units}
 use lib.Ieee.Nearest.{closest}
 use Rattle.arithmetic.specs.Internal.Exponent.{above}
 use Rattle.arithmetic.specs.Internal.MulAdd.{KeptExponent}
-use Rattle.arithmetic.proofs.Exponents.{written, counted, counted-most, distance-asks, distance-gives}
+use Rattle.arithmetic.proofs.Exponents.{written, counted, counted_most, distance-asks, distance-gives}
 use Rattle.arithmetic.proofs.MulAddPack.{Packed, packed}
 use Rattle.arithmetic.proofs.mul_add.pack.Statement.{statement}
 use Rattle.arithmetic.proofs.mul_add.pack.Tie as tie
@@ -17,7 +17,7 @@ distance-requires c κs =
     let k = c.args.k in
     let e = c.requires.1.0 in
     distance-asks 1074 (above 1074 k) 0 k (negsuc 1073) e.in-range least.in-range (counted e) refl zero-le
-    (le_trans (counted-most k e) (lit≤ tt))
+    (le_trans (counted_most k e) (lit≤ tt))
 
 -- the distance from the least exponent is the count from there on
 distance_is : (c : tie.After-distance) → c.distance.result ≡ above 1074 c.before.args.k
@@ -32,7 +32,7 @@ bits c =
     let start = c.before.before in
     let pre = start.requires in
     subst (λ (k : ℕ). Packed start.args.m k c.round-guarded.result) (sym (distance_is c.before))
-    (packed _ _ _ pre.0 (counted-most start.args.k pre.1.0) pre.1.1 c.round-guarded.ensures)
+    (packed _ _ _ pre.0 (counted_most start.args.k pre.1.0) pre.1.1 c.round-guarded.ensures)
 
 units-is : (c : tie.After-round-guarded)
     → let a = c.before.before.args in

@@ -1,7 +1,7 @@
 -- `mul_add::product_exponent` meets its contract, by the laws of `MulAddAlign`. Assumes nothing.
 use Rattle.std.proofs.Common.{refl, inl, inr}
 use Rattle.arithmetic.proofs.Exponents.{written, sum-asks, sum-gives}
-use Rattle.arithmetic.proofs.MulAddAlign.{product-exponent-zero, product_term, product-exponent-sum}
+use Rattle.arithmetic.proofs.MulAddAlign.{product_exponent_zero, product_term, product-exponent-sum}
 use Rattle.arithmetic.proofs.mul_add.product_exponent.Statement.{statement}
 use Rattle.arithmetic.proofs.mul_add.product_exponent.Tie as tie
 
@@ -18,13 +18,13 @@ sum-requires c κs =
     sum-asks u.j v.j pre.0.in-range pre.1.0.in-range (product_term u v pre.0 pre.1.0).in-range
 
 returns : tie.Need-returns
-returns c = let a = c.before.before.args in product-exponent-zero a.u a.v (inl c.if1.true) _ (written tt tt tt tt) refl
+returns c = let a = c.before.before.args in product_exponent_zero a.u a.v (inl c.if1.true) _ (written tt tt tt tt) refl
 
 returns-2 : tie.Need-returns-2
 returns-2 c =
     let at-u = c.before.before in
     let a = at-u.before.before.args in
-    product-exponent-zero a.u a.v (inr c.if2.true) _ (written tt tt tt tt) refl
+    product_exponent_zero a.u a.v (inr c.if2.true) _ (written tt tt tt tt) refl
 
 returns-3 : tie.Need-returns-3
 returns-3 c =

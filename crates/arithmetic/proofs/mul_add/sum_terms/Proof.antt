@@ -4,7 +4,7 @@ use lib.Ieee.{binary64, round}
 use lib.Pow.{add-lt-pow}
 use Rattle.arithmetic.specs.Internal.Pair.{val}
 use Rattle.arithmetic.specs.Internal.Exponent.{above}
-use Rattle.arithmetic.proofs.Exponents.{held, held-is}
+use Rattle.arithmetic.proofs.Exponents.{held, held_is}
 use Rattle.arithmetic.proofs.SumOneScale.{sum_alike, sum_less, sum_more}
 use Rattle.arithmetic.proofs.mul_add.sum_terms.Statement.{statement}
 use Rattle.arithmetic.proofs.mul_add.sum_terms.Tie as tie
@@ -23,7 +23,7 @@ first-not-less c = sym c.before.less.ensures ∙ c.if2.false
 -- the exponent that is handed on
 rounded : (c : tie.Start) (u : Bool) (v : ℕ)
     → let e = c.args.w.e in round binary64 u (v * 2 ^ above 2148 (held e)) (2 ^ 2148) ≡ round binary64 u (v * 2 ^ above 2148 e) (2 ^ 2148)
-rounded c u v = ap (λ (z : ℤ). round binary64 u (v * 2 ^ above 2148 z) (2 ^ 2148)) (held-is c.args.w.e c.requires.1.1.in-range)
+rounded c u v = ap (λ (z : ℤ). round binary64 u (v * 2 ^ above 2148 z) (2 ^ 2148)) (held_is c.args.w.e c.requires.1.1.in-range)
 
 add-requires : tie.Need-add-requires
 add-requires c κs = let pre = (start c.before).requires in add-lt-pow 127 pre.0 pre.1.0

@@ -1,17 +1,17 @@
--- `mul_add::to_guarded` meets its contract: `guarded-zero`, or what `to_guarded_above` ensures. Assumes nothing.
+-- `mul_add::to_guarded` meets its contract: `guarded_zero`, or what `to_guarded_above` ensures. Assumes nothing.
 use Rattle.std.proofs.Common.{◌≡◌, ◌*◌, ◌^◌, ◌≤◌, ℤ, pos, ◌+ℤ◌, ◌-ℤ◌, sym, refl, ap, ◌∙◌, subst, le_trans, le_of_eq, lit≤, rules}
 use lib.Ieee.{size}
 use Rattle.arithmetic.specs.Internal.Pair.{val}
 use Rattle.arithmetic.specs.Internal.Exponent.{InRange, above}
 use Rattle.arithmetic.specs.Internal.MulAdd.{LastDigit, IsGuarded}
-use Rattle.arithmetic.proofs.Pairs.{val-size}
-use Rattle.arithmetic.proofs.Exponents.{written, held, held-is, moved-asks, moved-gives}
-use Rattle.arithmetic.proofs.MulAddGuarded.{guarded-zero, end-in-range, last-subnormal, last-normal}
+use Rattle.arithmetic.proofs.Pairs.{val_size}
+use Rattle.arithmetic.proofs.Exponents.{written, held, held_is, moved-asks, moved-gives}
+use Rattle.arithmetic.proofs.MulAddGuarded.{guarded_zero, end-in-range, last-subnormal, last-normal}
 use Rattle.arithmetic.proofs.mul_add.to_guarded.Statement.{statement}
 use Rattle.arithmetic.proofs.mul_add.to_guarded.Tie as tie
 
 few : (c : tie.Start) → size (val c.args.v) ≤ 128
-few c = val-size c.args.v (search rules) (search rules)
+few c = val_size c.args.v (search rules) (search rules)
 
 -- the exponent above the leading digit
 abbrev end : tie.After-raised → ℤ
@@ -44,27 +44,27 @@ last c =
 lowered-requires : tie.Need-lowered-requires
 lowered-requires c κs =
     let at-raised = c.before in
-    let is = sym (end_is at-raised) ∙ held-is _ at-raised.raised.ensures.1 in
+    let is = sym (end_is at-raised) ∙ held_is _ at-raised.raised.ensures.1 in
     moved-asks ◌-ℤ◌ _ at-raised.raised.ensures.1 53 (lit≤ tt) (subst (λ (z : ℤ). InRange (z -ℤ pos 53)) is (last c).kept.in-range)
 
 last-is : (c : tie.After-lowered) → held c.lowered.result ≡ end c.before.before -ℤ pos 53
 last-is c =
     let at-raised = c.before.before in
     let r = at-raised.raised.ensures.1 in
-    moved-gives ◌-ℤ◌ _ r 53 _ c.lowered.ensures ∙ ap (λ (z : ℤ). z -ℤ pos 53) (sym (held-is _ r) ∙ end_is at-raised)
+    moved-gives ◌-ℤ◌ _ r 53 _ c.lowered.ensures ∙ ap (λ (z : ℤ). z -ℤ pos 53) (sym (held_is _ r) ∙ end_is at-raised)
 
 to-guarded-above-requires : tie.Need-to-guarded-above-requires
 to-guarded-above-requires c κs =
     let at-raised = c.before.before in
     let start = at-raised.before.before.before in
-    rw (held-is start.args.e start.requires.in-range, last-is c) (last c.before)
+    rw (held_is start.args.e start.requires.in-range, last-is c) (last c.before)
 
 to-guarded-above-requires-2 : tie.Need-to-guarded-above-requires-2
 to-guarded-above-requires-2 c κs =
     let at_some = c.before.before in
     let at-digits = at_some.before in
     let start = at-digits.before in
-    rw (held-is start.args.e start.requires.in-range)
+    rw (held_is start.args.e start.requires.in-range)
     (last-subnormal _ start.args.e start.requires _ at-digits.digits.ensures (few start) at_some.if1.false _ (end_is c.before) c.if2.false
     _ (written tt tt tt tt) refl)
 
@@ -72,12 +72,12 @@ returns : tie.Need-returns
 returns c =
     let at-digits = c.before in
     let a = at-digits.before.args in
-    guarded-zero (val a.v) _ (sym at-digits.digits.ensures ∙ c.if1.true) _ (written tt tt tt tt) refl
+    guarded_zero (val a.v) _ (sym at-digits.digits.ensures ∙ c.if1.true) _ (written tt tt tt tt) refl
 
 -- what is ensured of the exponent that was handed over
 of-exponent : (c : tie.Start) {r : _} → let a = c.args in IsGuarded (val a.v * 2 ^ above 2148 (held a.e)) r
     → IsGuarded (val a.v * 2 ^ above 2148 a.e) r
-of-exponent c {r} h = let a = c.args in subst (λ (z : ℤ). IsGuarded (val a.v * 2 ^ above 2148 z) r) (held-is a.e c.requires.in-range) h
+of-exponent c {r} h = let a = c.args in subst (λ (z : ℤ). IsGuarded (val a.v * 2 ^ above 2148 z) r) (held_is a.e c.requires.in-range) h
 
 returns-2 : tie.Need-returns-2
 returns-2 c =

@@ -3,15 +3,15 @@ use Rattle.std.proofs.Common.{◌≡◌, ◌+◌, ◌≤◌, ◌-ℤ◌, refl, l
 use lib.Ieee.{size}
 use Rattle.arithmetic.specs.Internal.Pair.{val}
 use Rattle.arithmetic.specs.Internal.Exponent.{above}
-use Rattle.arithmetic.proofs.Pairs.{val-size}
-use Rattle.arithmetic.proofs.Exponents.{held-is, moved-asks}
+use Rattle.arithmetic.proofs.Pairs.{val_size}
+use Rattle.arithmetic.proofs.Exponents.{held_is, moved-asks}
 use Rattle.arithmetic.proofs.MulAddGuarded.{sticky-in-range, jam-order, jam-asks, jam-gives, up-order, up-asks, up-gives}
 use Rattle.arithmetic.proofs.MulAddGuarded.{guarded-jam, up_by, guarded-up}
 use Rattle.arithmetic.proofs.mul_add.to_guarded_above.Statement.{statement}
 use Rattle.arithmetic.proofs.mul_add.to_guarded_above.Tie as tie
 
 few : (c : tie.Start) → size (val c.args.v) ≤ 128
-few c = val-size c.args.v (search rules) (search rules)
+few c = val_size c.args.v (search rules) (search rules)
 
 lowered-requires : tie.Need-lowered-requires
 lowered-requires c κs = moved-asks ◌-ℤ◌ c.args.at c.requires.kept.in-range 2 (lit≤ tt) (sticky-in-range _ (few c) _ _ c.requires)
@@ -57,14 +57,14 @@ returns c =
     let at-distance = c.before in
     let s = at-distance.before.before.before in
     let r = c.jam.result in
-    rw (held-is s.args.at s.requires.kept.in-range) (guarded-jam _ (few s) _ _ s.requires _ (jammed at-distance) r.hi r.lo c.jam.ensures)
+    rw (held_is s.args.at s.requires.kept.in-range) (guarded-jam _ (few s) _ _ s.requires _ (jammed at-distance) r.hi r.lo c.jam.ensures)
 
 returns-2 : tie.Need-returns-2
 returns-2 c =
     let at-distance = c.before in
     let s = at-distance.before.before.before in
     let v = s.args.v in
-    rw (held-is s.args.at s.requires.kept.in-range) (guarded-up _ (few s) _ _ s.requires _ (appended at-distance) v.hi v.lo refl)
+    rw (held_is s.args.at s.requires.kept.in-range) (guarded-up _ (few s) _ _ s.requires _ (appended at-distance) v.hi v.lo refl)
 
 pub to-guarded-above-spec : {M : Type 1} → statement M
 to-guarded-above-spec =

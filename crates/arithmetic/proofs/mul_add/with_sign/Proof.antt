@@ -1,7 +1,7 @@
 -- `mul_add::with_sign` meets its contract: a clear sign adds nothing to the pattern. Assumes nothing.
 use Rattle.std.proofs.Common.{◌+◌, ◌^◌, Bool, cond, sym, ap, ◌∙◌, zero-add, arith, rules}
 use lib.Ieee.{binary64, of_bits}
-use Rattle.arithmetic.specs.Laws.Patterns.{bits-no-nan}
+use Rattle.arithmetic.specs.Laws.Patterns.{bits_no_nan}
 use Rattle.arithmetic.proofs.mul_add.with_sign.Statement.{statement}
 use Rattle.arithmetic.proofs.mul_add.with_sign.Tie as tie
 
@@ -15,5 +15,5 @@ returns-2 c =
 
 pub with-sign-spec : {M : Type 1} → statement M
 with-sign-spec =
-    tie.close (tie.spec (λ c. search rules) (λ c. bits-no-nan _ (omega arith)) (λ c. bits-no-nan _ (omega arith)) returns
+    tie.close (tie.spec (λ c. search rules) (λ c. bits_no_nan _ (omega arith)) (λ c. bits_no_nan _ (omega arith)) returns
     returns-2)

@@ -2,7 +2,7 @@
 -- Assumes nothing.
 use Rattle.std.proofs.Common.{◌^◌, ◌<◌, ◌≤◌, arith}
 use lib.Count.{count_leading_zeros, leading_le}
-use Rattle.arithmetic.proofs.Pairs.{digits_low, digits-high}
+use Rattle.arithmetic.proofs.Pairs.{digits_low, digits_high}
 use Rattle.arithmetic.proofs.pair.digits.Statement.{statement}
 use Rattle.arithmetic.proofs.pair.digits.Tie as tie
 
@@ -29,7 +29,7 @@ returns-2 : tie.Need-returns-2
 returns-2 c =
     let at_test = c.before in
     let start = at_test.before.before in
-    digits-high start.args.a.hi start.args.a.lo at_test.if1.false (ah start) (al start)
+    digits_high start.args.a.hi start.args.a.lo at_test.if1.false (ah start) (al start)
 
 pub digits-spec : {M : Type 1} → statement M
 digits-spec =

@@ -1,7 +1,7 @@
 -- `pair::down` meets its contract: a law of `Pairs` for each range of the shift. Assumes nothing.
 use Rattle.std.proofs.Common.{◌^◌, ◌<◌, arith, rules}
 use Rattle.arithmetic.specs.Internal.Pair.{val}
-use Rattle.arithmetic.proofs.Pairs.{val-lt, shift-down-none, shift-down-fits, shift-down, shift-down-far, none_left}
+use Rattle.arithmetic.proofs.Pairs.{val_lt, shift_down_none, shift-down-fits, shift-down, shift-down-far, none_left}
 use Rattle.arithmetic.proofs.pair.down.Statement.{statement}
 use Rattle.arithmetic.proofs.pair.down.Tie as tie
 
@@ -16,7 +16,7 @@ add-t11 c =
     record { fits = shift-down-fits start.args.a start.args.d (al start) at-short.if2.true }
 
 returns : tie.Need-returns
-returns c = let a = c.before.args in shift-down-none (val a.a) a.d c.if1.true
+returns c = let a = c.before.args in shift_down_none (val a.a) a.d c.if1.true
 
 returns-2 : tie.Need-returns-2
 returns-2 c =
@@ -35,7 +35,7 @@ returns-4 : tie.Need-returns-4
 returns-4 c =
     let at-far = c.before in
     let start = at-far.before.before in
-    none_left (val start.args.a) start.args.d (val-lt start.args.a (search rules) (search rules)) c.if3.false
+    none_left (val start.args.a) start.args.d (val_lt start.args.a (search rules) (search rules)) c.if3.false
 
 pub down-spec : {M : Type 1} → statement M
 down-spec =

@@ -2,16 +2,16 @@
 use Rattle.std.proofs.Common.{◌≡◌, ℕ, ◌+◌, ◌*◌, ◌/◌, ◌^◌, ◌<◌, ◌≤◌, sym, ap, ◌∙◌, subst, lt_of_le_of_lt, arith, rules, ltb-false, ltb-true}
 use Rattle.arithmetic.specs.Internal.Exponent.{limit}
 use Rattle.arithmetic.specs.Internal.Pair.{val}
-use Rattle.arithmetic.proofs.Exponents.{whole-most}
-use Rattle.arithmetic.proofs.Pairs.{val-lt, twice-le, jam-room, jam_some, jam_none}
+use Rattle.arithmetic.proofs.Exponents.{whole_most}
+use Rattle.arithmetic.proofs.Pairs.{val_lt, twice_le, jam_room, jam_some, jam_none}
 use Rattle.arithmetic.proofs.pair.jam.Statement.{statement}
 use Rattle.arithmetic.proofs.pair.jam.Tie as tie
 
 small : (c : tie.Start) → val c.args.a < 2 ^ 128
-small c = val-lt c.args.a (search rules) (search rules)
+small c = val_lt c.args.a (search rules) (search rules)
 
 next_fits : (c : tie.Start) → c.args.d + 1 < 2 ^ 64
-next_fits c = go c.args.d (whole-most c.args.d c.requires)
+next_fits c = go c.args.d (whole_most c.args.d c.requires)
   where
     go : (n : ℕ) → n ≤ limit → n + 1 < 2 ^ 64
     go n h = omega arith
@@ -25,7 +25,7 @@ add-has-low c = record { fits = next_fits c.before.before }
 up-requires : tie.Need-up-requires
 up-requires c κs =
     let a = c.before.args in
-    let fits = lt_of_le_of_lt (twice-le (val a.a) a.d) (small c.before) in
+    let fits = lt_of_le_of_lt (twice_le (val a.a) a.d) (small c.before) in
     (search rules, subst (λ (x : ℕ). x * 2 < 2 ^ 128) (sym c.down.ensures) fits)
 
 -- the doubled quotient
@@ -40,7 +40,7 @@ add-t8 c =
     let at_low = c.before.before in
     let at_up = at_low.before in
     let a = at_up.before.before.args in
-    record { fits = jam-room at_up.up.result.hi at_up.up.result.lo (val a.a / 2 ^ (a.d + 1)) (twice at_up) (low at_up) }
+    record { fits = jam_room at_up.up.result.hi at_up.up.result.lo (val a.a / 2 ^ (a.d + 1)) (twice at_up) (low at_up) }
 
 returns : tie.Need-returns
 returns c =

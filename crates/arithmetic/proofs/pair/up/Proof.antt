@@ -1,7 +1,7 @@
 -- `pair::up` meets its contract: a law of `Pairs` for each range of the shift. Assumes nothing.
 use Rattle.std.proofs.Common.{◌^◌, ◌<◌, arith, rules}
 use Rattle.arithmetic.specs.Internal.Pair.{val}
-use Rattle.arithmetic.proofs.Pairs.{shift-up-none, shift-up-fits, shift-up, shift-up-far}
+use Rattle.arithmetic.proofs.Pairs.{shift_up_none, shift-up-fits, shift-up, shift-up-far}
 use Rattle.arithmetic.proofs.pair.up.Statement.{statement}
 use Rattle.arithmetic.proofs.pair.up.Tie as tie
 
@@ -15,7 +15,7 @@ add-t10 c =
     record { fits = shift-up-fits start.args.a start.args.d (al start) at-short.if2.true start.requires.1 }
 
 returns : tie.Need-returns
-returns c = let a = c.before.args in shift-up-none (val a.a) a.d c.if1.true
+returns c = let a = c.before.args in shift_up_none (val a.a) a.d c.if1.true
 
 returns-2 : tie.Need-returns-2
 returns-2 c =

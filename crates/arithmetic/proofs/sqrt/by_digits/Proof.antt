@@ -1,7 +1,7 @@
 -- `sqrt::by_digits` meets its contract, by the laws of `SqrtDigits`. The invariant: r is the whole root of the upper digits. The measure is the
 -- iterations that are left. Assumes nothing.
 use Rattle.std.proofs.Common.{◌-◌, ◌≤◌, ⊎_elim, arith}
-use Rattle.arithmetic.proofs.SqrtDigits.{Upper, Small, small, upper-none, next-0, next-1, nearest-above, nearest-itself, closest-of}
+use Rattle.arithmetic.proofs.SqrtDigits.{Upper, Small, small, upper_none, next-0, next-1, nearest_above, nearest_itself, closest_of}
 use Rattle.arithmetic.proofs.sqrt.by_digits.Statement.{statement}
 use Rattle.arithmetic.proofs.sqrt.by_digits.Tie as tie
 
@@ -15,7 +15,7 @@ bound : (c : tie.At-loop invariant-loop decreases-loop) → Small c.loop.r c.loo
 bound c = small _ _ _ _ _ c.loop.invariant.0 c.loop.invariant.1
 
 loop-holds : tie.Need-loop-init invariant-loop decreases-loop
-loop-holds c = (upper-none _ (omega arith), omega arith)
+loop-holds c = (upper_none _ (omega arith), omega arith)
 
 loop-again : tie.Need-loop-preserved invariant-loop decreases-loop
 loop-again c =
@@ -28,13 +28,13 @@ returns : tie.Need-returns invariant-loop decreases-loop
 returns c =
     let at-loop = c.before.before in
     let start = at-loop.before in
-    closest-of start.args.w _ start.requires (nearest-above _ _ _ _ _ at-loop.loop.invariant.0 (omega arith) c.if2.true)
+    closest_of start.args.w _ start.requires (nearest_above _ _ _ _ _ at-loop.loop.invariant.0 (omega arith) c.if2.true)
 
 returns-2 : tie.Need-returns-2 invariant-loop decreases-loop
 returns-2 c =
     let at-loop = c.before.before in
     let start = at-loop.before in
-    closest-of start.args.w _ start.requires (nearest-itself _ _ _ _ _ (omega arith) at-loop.loop.invariant.0 (omega arith) c.if2.false)
+    closest_of start.args.w _ start.requires (nearest_itself _ _ _ _ _ (omega arith) at-loop.loop.invariant.0 (omega arith) c.if2.false)
 
 pub by-digits-spec : {M : Type 1} → statement M
 by-digits-spec =

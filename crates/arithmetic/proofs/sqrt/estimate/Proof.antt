@@ -1,18 +1,18 @@
 -- `sqrt::estimate` is safe: each product is of two numbers of 32 bits. Assumes nothing.
 use Rattle.std.proofs.Common.{ℕ, ◌*◌, ◌/◌, ◌^◌, ◌<◌, arith, shr_lt, w64, Fits, rules}
-use Rattle.arithmetic.specs.Laws.Numbers.{mul-lt-pow}
+use Rattle.arithmetic.specs.Laws.Numbers.{mul_lt_pow}
 use Rattle.arithmetic.proofs.sqrt.estimate.Statement.{statement}
 use Rattle.arithmetic.proofs.sqrt.estimate.Tie as tie
 
 of-halves : {a b : ℕ} → a < 2 ^ 32 → b < 2 ^ 32 → Fits w64 (a * b)
-of-halves A B = let p = mul-lt-pow 32 32 A B in omega (arith, p)
+of-halves A B = let p = mul_lt_pow 32 32 A B in omega (arith, p)
 
 -- h2 and h4
 square : (c : tie.After-high2) → c.before.high.result / 2 ^ 32 < 2 ^ 32
 square c = shr_lt 32 32 c.before.high.type-inv
 
 fourth : (c : tie.After-high2) → let h2 = c.before.high.result / 2 ^ 32 in h2 * h2 / 2 ^ 32 < 2 ^ 32
-fourth c = shr_lt 32 32 (mul-lt-pow 32 32 (square c) (square c))
+fourth c = shr_lt 32 32 (mul_lt_pow 32 32 (square c) (square c))
 
 mul-h4 : tie.Need-overflow-mul-h4
 mul-h4 c = of-halves (square c) (square c)

@@ -3,9 +3,9 @@ use Rattle.std.proofs.Common.{◌≡◌, ℕ, ◌+◌, ◌*◌, ◌/◌, ⊎_eli
 use denote.Floats.{passes}
 use lib.Ieee.{binary64, of_bits}
 use Rattle.arithmetic.specs.Sqrt.{sqrt}
-use Rattle.arithmetic.specs.Laws.Patterns.{built-no-nan}
+use Rattle.arithmetic.specs.Laws.Patterns.{built_no_nan}
 use Rattle.arithmetic.specs.Internal.Sqrt.{Radicand, Closest}
-use Rattle.arithmetic.proofs.SqrtPaths.{pattern-at}
+use Rattle.arithmetic.proofs.SqrtPaths.{pattern_at}
 use Rattle.arithmetic.proofs.sqrt.of_normal.Statement.{statement}
 use Rattle.arithmetic.proofs.sqrt.of_normal.Tie as tie
 
@@ -20,8 +20,8 @@ pattern c q h =
     let b = c.before.before.args.b in
     let k = (1021 + b / 4503599627370496) / 2 in
     ⊎_elim
-    (λ w. pattern-at b k _ 53 q (omega arith) (omega arith) (omega arith, omega arith) (omega arith) (omega arith) (omega arith) h)
-    (λ w. pattern-at b k _ 52 q (omega arith) (omega arith) (omega arith, omega arith) (omega arith) (omega arith) (omega arith) h)
+    (λ w. pattern_at b k _ 53 q (omega arith) (omega arith) (omega arith, omega arith) (omega arith) (omega arith) (omega arith) h)
+    (λ w. pattern_at b k _ 52 q (omega arith) (omega arith) (omega arith, omega arith) (omega arith) (omega arith) (omega arith) h)
     c.if1.branch
 
 is-closest-requires : tie.Need-is-closest-requires
@@ -35,7 +35,7 @@ add-result : tie.Need-overflow-add-result
 add-result c = let below = (nearest c).2 in omega arith
 
 float-from-bits-result : tie.Need-float-from-bits-result
-float-from-bits-result c = built-no-nan _ _ (omega arith) (nearest c).2
+float-from-bits-result c = built_no_nan _ _ (omega arith) (nearest c).2
 
 returns : tie.Need-returns
 returns c = pattern c.before.before _ (nearest c)
@@ -44,7 +44,7 @@ closest-requires : tie.Need-closest-requires
 closest-requires c κs = radicand c.before.before
 
 float-from-bits-result-2 : tie.Need-float-from-bits-result-2
-float-from-bits-result-2 c = built-no-nan _ _ (omega arith) c.closest.ensures.2
+float-from-bits-result-2 c = built_no_nan _ _ (omega arith) c.closest.ensures.2
 
 returns-2 : tie.Need-returns-2
 returns-2 c = pattern c.before.before.before _ c.closest.ensures

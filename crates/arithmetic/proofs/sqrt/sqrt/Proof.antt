@@ -5,10 +5,10 @@ use lib.Ieee.Bits.{of_bits-to_bits, to_bits-lt}
 use denote.Floats.{passes}
 use Rattle.arithmetic.specs.Sqrt.{sqrt}
 use Rattle.arithmetic.specs.Laws.Compare.{is_no_nan}
-use Rattle.arithmetic.specs.Laws.Patterns.{bits-no-nan}
-use Rattle.arithmetic.specs.Laws.Signs.{has-bits}
-use Rattle.arithmetic.proofs.Integers.{integer-fits}
-use Rattle.arithmetic.proofs.SqrtPaths.{of_nan, of_zero, of-itself, of-below, whole-no-nan, whole-normal, of-whole}
+use Rattle.arithmetic.specs.Laws.Patterns.{bits_no_nan}
+use Rattle.arithmetic.specs.Laws.Signs.{has_bits}
+use Rattle.arithmetic.proofs.Integers.{integer_fits}
+use Rattle.arithmetic.proofs.SqrtPaths.{of_nan, of_zero, of_itself, of_below, whole-no-nan, whole-normal, of-whole}
 use Rattle.arithmetic.proofs.sqrt.sqrt.Statement.{statement}
 use Rattle.arithmetic.proofs.sqrt.sqrt.Tie as tie
 
@@ -26,7 +26,7 @@ returns : tie.Need-returns
 returns c = of_nan c.before.args.x c.if1.true
 
 float-to-bits-b : tie.Need-float-to-bits-b
-float-to-bits-b c = has-bits c.before.args.x c.if1.false
+float-to-bits-b c = has_bits c.before.args.x c.if1.false
 
 returns-2 : tie.Need-returns-2
 returns-2 c =
@@ -35,13 +35,13 @@ returns-2 c =
     let start = number.before in
     let is_number = ap is_nan (back start) ∙ is_no_nan start.args.x number.if1.false in
     sym (subst (λ (y : Float). sqrt y ≡ y) (back start)
-    (of-itself (to_bits binary64 start.args.x) from-infinity.if2.true (omega (arith, c.if3.true)) is_number))
+    (of_itself (to_bits binary64 start.args.x) from-infinity.if2.true (omega (arith, c.if3.true)) is_number))
 
 returns-3 : tie.Need-returns-3
 returns-3 c =
     let number = c.before.before in
     let start = number.before in
-    of-below (to_bits binary64 start.args.x) (omega (arith, c.if3.false)) (to_bits-lt binary64 start.args.x (held start)) ∙ ap sqrt (back start)
+    of_below (to_bits binary64 start.args.x) (omega (arith, c.if3.false)) (to_bits-lt binary64 start.args.x (held start)) ∙ ap sqrt (back start)
 
 returns-4 : tie.Need-returns-4
 returns-4 c =
@@ -50,7 +50,7 @@ returns-4 c =
     sym (subst (λ (y : Float). sqrt y ≡ y) (back start) (of_zero (to_bits binary64 start.args.x) c.if5.true))
 
 int-to-float-c : tie.Need-int-to-float-c
-int-to-float-c c = integer-fits _ (omega arith)
+int-to-float-c c = integer_fits _ (omega arith)
 
 float-to-bits-c : tie.Need-float-to-bits-c
 float-to-bits-c c = whole-no-nan _ (omega arith) (omega arith)
@@ -60,7 +60,7 @@ of-normal-requires c κs =
     ⊎_elim (λ h. rw h.3 (whole-normal _ (omega arith) h.0.taken)) (λ h. omega arith) c.if4.branch
 
 float-from-bits-result : tie.Need-float-from-bits-result
-float-from-bits-result c = bits-no-nan _ (omega arith)
+float-from-bits-result c = bits_no_nan _ (omega arith)
 
 returns-5 : tie.Need-returns-5
 returns-5 c =

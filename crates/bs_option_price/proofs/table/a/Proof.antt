@@ -3,7 +3,7 @@ use mathlib.Core.Path.{◌∙◌}
 use Prim.Native.Nat.{zero-le}
 use native.Mathlib.Omega.{arith}
 use borrow.Author.Rules.{rules}
-use Rattle.arithmetic.specs.Laws.Choices.{all-passed}
+use Rattle.arithmetic.specs.Laws.Choices.{all_passed}
 use Rattle.bs_option_price.specs.Table.{table, row}
 use Rattle.bs_option_price.proofs.Expansion.{row_at}
 use Rattle.bs_option_price.proofs.table.a.Statement.{statement}
@@ -14,7 +14,7 @@ unfolding table row
 last_row c =
     let after_table = c.before.before in
     let at-match = after_table.before in
-    let at-least-16 = all-passed 0 16 _ zero-le at-match.match.rest in
+    let at-least-16 = all_passed 0 16 _ zero-le at-match.match.rest in
     c.nested17.ensures ∙ row_at 16 _ _ (omega (arith, at-match.before.requires))
 
 pub a-spec : {M : Type 1} → statement M

@@ -5,14 +5,14 @@ use Prim.Native.Nat.{ℕ, ◌≤◌, ◌-◌}
 use native.Mathlib.Omega.{arith}
 use borrow.Author.Rules.{rules}
 use lib.ListN.{length, drop}
-use Rattle.cable_window.specs.Window.{zeros, afterWrites, writes}
+use Rattle.cable_window.specs.Window.{zeros, after_writes, writes}
 use Rattle.cable_window.proofs.Steps.{writes-turn, ends-offsets, ends_words}
 use Rattle.cable_window.proofs.window.after_writes.Statement.{statement}
 use Rattle.cable_window.proofs.window.after_writes.Tie as tie
 
 abbrev invariant-loop : tie.invariant-loop
 invariant-loop offsets words window₀ i₀ window i =
-    (i ≤ length offsets) × (afterWrites window.bytes (drop i (writes offsets words)) ≡ afterWrites zeros (writes offsets words))
+    (i ≤ length offsets) × (after_writes window.bytes (drop i (writes offsets words)) ≡ after_writes zeros (writes offsets words))
 
 abbrev decreases-loop : tie.decreases-loop
 decreases-loop offsets words window₀ i₀ window i = length offsets - i
@@ -20,7 +20,7 @@ decreases-loop offsets words window₀ i₀ window i = length offsets - i
 loop-holds : tie.Need-loop-init invariant-loop decreases-loop
 loop-holds c =
     let a = c.before.before.before.args in
-    (omega arith, ap (λ (s : List ℕ). afterWrites s (writes a.offsets.now a.words.now)) c.zeros.ensures)
+    (omega arith, ap (λ (s : List ℕ). after_writes s (writes a.offsets.now a.words.now)) c.zeros.ensures)
 
 returns : tie.Need-returns invariant-loop decreases-loop
 returns c =

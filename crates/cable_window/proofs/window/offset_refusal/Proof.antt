@@ -1,11 +1,11 @@
 -- The tests that led to each return pick the definition's case. Assumes nothing.
 use native.Mathlib.Omega.{arith}
-use Rattle.cable_window.proofs.Steps.{off-words, at-command, at-status, past-quote-words, at-quote-word}
+use Rattle.cable_window.proofs.Steps.{off_words, at-command, at-status, past-quote-words, at-quote-word}
 use Rattle.cable_window.proofs.window.offset_refusal.Statement.{statement}
 use Rattle.cable_window.proofs.window.offset_refusal.Tie as tie
 
 returns : tie.Need-returns
-returns c = off-words _ c.if1.true
+returns c = off_words _ c.if1.true
 
 returns-2 : tie.Need-returns-2
 returns-2 c = at-command _ c.before.if1.false c.if2.true

@@ -65,8 +65,8 @@ use Rattle.cable_window.proofs.window.write.Statement as stated
 use Rattle.cable_window.proofs.window.write.Code as code
 
 -- a number that the test took for another than 0
-not-zero : (n : ℕ) → T (not (eqb n 0)) → n ≡ 0 → ⊥
-not-zero n t e = subst (λ (b : Bool). T (not b)) (eq-eqb n 0 e) t
+not_zero : (n : ℕ) → T (not (eqb n 0)) → n ≡ 0 → ⊥
+not_zero n t e = subst (λ (b : Bool). T (not b)) (eq-eqb n 0 e) t
 
 abbrev Arg : Type 0
 Arg = MutBor Window × (ℕ × (ℕ × Unit {0}))
@@ -85,13 +85,13 @@ module _ {M : Type 1} {𝓤 : Ura M} (𝓛 : Logic 𝓤) (mem : Memory → SProp
   -- of each callee's `ensured`, the clause alone: neither has a `&mut`
   after-write-said : (h : Window) (o w : ℕ) (r : Window)
       → ent 𝓤 (ensured 𝓛 after_write.ended (after_write.clauses 𝓛 mem run) tt (h, (o, (w, tt))) tt r)
-      (fact 𝓤 (r.bytes ≡ D.afterWrite h.bytes o w))
+      (fact 𝓤 (r.bytes ≡ D.after_write h.bytes o w))
   after-write-said h o w r =
-      ex_e 𝓤 _ (λ ws. snd∗ 𝓤 (sem 𝓛 (lasts after_write.ended tt (h, (o, (w, tt))) ws)) (fact 𝓤 (r.bytes ≡ D.afterWrite h.bytes o w)))
+      ex_e 𝓤 _ (λ ws. snd∗ 𝓤 (sem 𝓛 (lasts after_write.ended tt (h, (o, (w, tt))) ws)) (fact 𝓤 (r.bytes ≡ D.after_write h.bytes o w)))
 
   offset-refusal-said : (o r : ℕ)
-      → ent 𝓤 (ensured 𝓛 offset-refusal.ended (offset-refusal.clauses 𝓛 mem run) tt (o, tt) tt r) (fact 𝓤 (r ≡ D.offsetRefusal o))
-  offset-refusal-said o r = ex_e 𝓤 _ (λ ws. snd∗ 𝓤 (sem 𝓛 (lasts offset-refusal.ended tt (o, tt) ws)) (fact 𝓤 (r ≡ D.offsetRefusal o)))
+      → ent 𝓤 (ensured 𝓛 offset-refusal.ended (offset-refusal.clauses 𝓛 mem run) tt (o, tt) tt r) (fact 𝓤 (r ≡ D.offset_refusal o))
+  offset-refusal-said o r = ex_e 𝓤 _ (λ ws. snd∗ 𝓤 (sem 𝓛 (lasts offset-refusal.ended tt (o, tt) ws)) (fact 𝓤 (r ≡ D.offset_refusal o)))
 
 module _
     {M : Type 1} {𝓤 : Ura M} (𝓛 : Logic 𝓤) (at_mem : Memory → SProp 𝓤) (run : Routine → Fun 𝓤)
@@ -108,7 +108,7 @@ module _
     abbrev Post : Val → SProp 𝓤
     Post = (walk_of 𝓛 write.ended stayed (write.clauses 𝓛 at_mem run)).post (((κ, tt), (q, tt), tt, x, vals), tt)
 
-    exits : (r : Window) (n : ℕ) (u : Val) → Is u32 n (u ∷ []) → (n ≡ D.offsetRefusal at) × (r.bytes ≡ D.afterWrite h.bytes at word)
+    exits : (r : Window) (n : ℕ) (u : Val) → Is u32 n (u ∷ []) → (n ≡ D.offset_refusal at) × (r.bytes ≡ D.after_write h.bytes at word)
         → ent 𝓤 (sep 𝓤 (A.obs γ ((T.the_row).coded.code r)) (sep 𝓤 (A.bor κ (Body (mem T.the_row) b o γ)) (A.lft κ q))) (Post u)
     exits r n u is e =
         qed 𝓛 (‵ (fobs γ ((T.the_row).coded.code r)) ∷ ‵ (fbor κ (Body (mem T.the_row) b o γ)) ∷ ‵ (flft κ q) ∷ []) ∵
@@ -169,8 +169,8 @@ module _
             calls_at ! fm (Refusal 𝓛 at_mem run) known-refusal to-refusal (and_then ! (load ! (from ! (stop !)) (look ! 11 refl)) (no_more !)) (λ u'.
             use1 𝓛 (later (some (λ (n : ℕ). (‵ ftrue ⊛ ‵ (u32.own_val n (u' ∷ []))) ⊛ raw
             (ensured 𝓛 offset-refusal.ended (offset-refusal.clauses 𝓛 at_mem run) tt (at, tt) tt n)))) (id⊢ 𝓤 _) $ await ! tt $ pick ! (λ n.
-            split ! $ move ! (1 ∷ []) $ use1 𝓛 (raw (fact 𝓤 (n ≡ D.offsetRefusal at))) (offset-refusal-said 𝓛 at_mem run at n) $
-            heard ! (n ≡ D.offsetRefusal at) (λ e₂. split ! $ drop ! $
+            split ! $ move ! (1 ∷ []) $ use1 𝓛 (raw (fact 𝓤 (n ≡ D.offset_refusal at))) (offset-refusal-said 𝓛 at_mem run at n) $
+            heard ! (n ≡ D.offset_refusal at) (λ e₂. split ! $ drop ! $
             facts ! u32 (Is u32) (shows 𝓛 u32) n (u' ∷ []) (λ is'.
             land ! (from ! (stop !)) (init ! 6 refl ((uint_Lawful 𝓛 w32).typed n _ is').0) $
             rewrite ! 6 (λ (v : Val). ‵ (fat full_share word32 l₄ 0 v)) (ap (λ (l : List Val). get_or l 0 u') is'.0) refl $
@@ -190,8 +190,8 @@ module _
             (and_then ! (load ! (from ! (stop !)) (look ! 17 refl)) (and_then ! (load ! (from ! (stop !)) (look ! 15 refl)) (no_more !)))) (λ u.
             use1 𝓛 (later (some (λ (r : Window). (‵ ftrue ⊛ ‵ ((T.the_row).own_val r (u ∷ []))) ⊛ raw
             (ensured 𝓛 after_write.ended (after_write.clauses 𝓛 at_mem run) tt (h, (at, (word, tt))) tt r)))) (id⊢ 𝓤 _) $ await ! tt $ pick ! (λ r.
-            split ! $ move ! (1 ∷ []) $ use1 𝓛 (raw (fact 𝓤 (r.bytes ≡ D.afterWrite h.bytes at word))) (after-write-said 𝓛 at_mem run h at word r) $
-            heard ! (r.bytes ≡ D.afterWrite h.bytes at word) (λ e₁. split ! $ drop ! $
+            split ! $ move ! (1 ∷ []) $ use1 𝓛 (raw (fact 𝓤 (r.bytes ≡ D.after_write h.bytes at word))) (after-write-said 𝓛 at_mem run h at word r) $
+            heard ! (r.bytes ≡ D.after_write h.bytes at word) (λ e₁. split ! $ drop ! $
             facts ! T.the_row (Is T.the_row) (shows 𝓛 T.the_row) r (u ∷ []) (λ is.
             land ! (from ! (stop !)) (init ! 8 refl ((LL.lawful T.the_type T'.the_laws 𝓛).typed r _ is).0) $
             assigns_last ! (of_opd ! (load ! (from ! (stop !)) (look ! 8 refl))) (from ! (hop ! (look ! 18 refl) (stop !)))
@@ -212,7 +212,7 @@ module _
             move ! (14 ∷ 15 ∷ []) $ free1 ! $ move ! (12 ∷ 13 ∷ []) $ free1 ! $ move ! (10 ∷ 11 ∷ []) $ free1 ! $ move ! (8 ∷ 9 ∷ []) $ free1 ! $
             move ! (6 ∷ 7 ∷ []) $ free1 ! $ move ! (4 ∷ 5 ∷ []) $ free1 ! $ move ! (2 ∷ 3 ∷ []) $ free1 ! $ free1 ! $ free0 ! $
             move ! (1 ∷ []) $ fsplit ! $ fsplit3 ! $ drop ! $ move ! (3 ∷ []) $ split ! $ keep ! (2 ∷ 3 ∷ 0 ∷ []) $
-            by ! (exits h n (vint w32 n) (refl, is'.1) (e₂, write-refused h.bytes at word e₂ (not-zero n some))))))))))))))))
+            by ! (exits h n (vint w32 n) (refl, is'.1) (e₂, write-refused h.bytes at word e₂ (not_zero n some))))))))))))))))
 
 module _ {M : Type 1} {𝓤 : Ura M} (𝓛 : Logic 𝓤) (at_mem : Memory → SProp 𝓤) (run : Routine → Fun 𝓤) where
   open 𝓛 use {H}

@@ -87,7 +87,7 @@ module _
 
     -- what `write` ensures of its number n and the window r at exit
     abbrev Said : ℕ → Window → Type 0
-    Said n r = (n ≡ D.offsetRefusal at) × (r.bytes ≡ D.afterWrite h.bytes at word)
+    Said n r = (n ≡ D.offset_refusal at) × (r.bytes ≡ D.after_write h.bytes at word)
 
     -- the number n and the window r, at the machine values u and v, as the reply
     module _ (n : ℕ) (r : Window) (u v : Val) (is : Is u32 n (u ∷ [])) (is' : Is T.the_row r (v ∷ [])) where

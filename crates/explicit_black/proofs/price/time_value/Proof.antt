@@ -1,10 +1,10 @@
 -- `price::time_value` meets its contract: what each call hands back, in the order of the formula. Assumes nothing.
-use Rattle.explicit_black.specs.Price.{timeValue}
+use Rattle.explicit_black.specs.Price.{time_value}
 use Rattle.explicit_black.proofs.price.time_value.Statement.{statement}
 use Rattle.explicit_black.proofs.price.time_value.Tie as tie
 
 returns : tie.Need-returns
-unfolding timeValue
+unfolding time_value
 returns c =
     let at-strike = c.before in
     let at_forward = at-strike.before in

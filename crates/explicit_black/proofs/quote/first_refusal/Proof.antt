@@ -3,16 +3,16 @@ use mathlib.Core.Path.{◌≡◌, ◌∙◌}
 use mathlib.Core.Bool.{cond, ◌&&◌, not}
 use Prim.Native.Nat.{ℕ}
 use lib.Ieee.{lt}
-use Rattle.arithmetic.specs.Operations.{plusZero}
+use Rattle.arithmetic.specs.Operations.{plus_zero}
 use Rattle.arithmetic.specs.Laws.Numbers.{denied, affirmed}
-use Rattle.explicit_black.specs.Laws.Quote.{no-side, a-side}
-use Rattle.explicit_black.specs.Quote.{firstRefusal}
+use Rattle.explicit_black.specs.Laws.Quote.{no_side, a_side}
+use Rattle.explicit_black.specs.Quote.{first_refusal}
 use Rattle.explicit_black.proofs.quote.first_refusal.Statement.{statement}
 use Rattle.explicit_black.proofs.quote.first_refusal.Tie as tie
 
 -- the number that the definition gives for the function's arguments
 abbrev number : tie.Start → ℕ
-number s = firstRefusal s.args.side s.args.price s.args.forward s.args.strike s.args.time
+number s = first_refusal s.args.side s.args.price s.args.forward s.args.strike s.args.time
 
 -- the arguments, from where tests 1 and 2 are passed
 abbrev start : tie.Else3 → tie.Start
@@ -23,35 +23,35 @@ start c =
 
 past-test-2 : (c : tie.Else3) →
     let s = start c in
-    number s ≡ cond (not (lt plusZero s.args.forward && lt plusZero s.args.strike)) 3 (cond (lt s.args.time plusZero) 4 0)
-unfolding firstRefusal
+    number s ≡ cond (not (lt plus_zero s.args.forward && lt plus_zero s.args.strike)) 3 (cond (lt s.args.time plus_zero) 4 0)
+unfolding first_refusal
 past-test-2 c =
     let at-strike = c.before in
     let at-price = at-strike.before.before in
     rw (
-      a-side _ at-price.before.if1.false,
+      a_side _ at-price.before.if1.false,
       affirmed _ _ at-price.are-finite.ensures at-strike.before.if2.false,
       affirmed _ _ at-strike.are-finite2.ensures c.if3.false,
     )
 
-past-test-3 : (c : tie.Else4) → let s = start c.before.before in number s ≡ cond (lt s.args.time plusZero) 4 0
+past-test-3 : (c : tie.Else4) → let s = start c.before.before in number s ≡ cond (lt s.args.time plus_zero) 4 0
 past-test-3 c = past-test-2 c.before.before ∙ rw (affirmed _ _ c.before.are-above-zero.ensures c.if4.false)
 
 returns : tie.Need-returns
-unfolding firstRefusal
-returns c = rw (no-side _ c.if1.true)
+unfolding first_refusal
+returns c = rw (no_side _ c.if1.true)
 
 returns-2 : tie.Need-returns-2
-unfolding firstRefusal
-returns-2 c = rw (a-side _ c.before.before.if1.false, denied _ _ c.before.are-finite.ensures c.if2.true)
+unfolding first_refusal
+returns-2 c = rw (a_side _ c.before.before.if1.false, denied _ _ c.before.are-finite.ensures c.if2.true)
 
 returns-3 : tie.Need-returns-3
-unfolding firstRefusal
+unfolding first_refusal
 returns-3 c =
     let at-strike = c.before in
     let at-price = at-strike.before.before in
     rw (
-      a-side _ at-price.before.if1.false,
+      a_side _ at-price.before.if1.false,
       affirmed _ _ at-price.are-finite.ensures at-strike.before.if2.false,
       denied _ _ at-strike.are-finite2.ensures c.if3.true,
     )

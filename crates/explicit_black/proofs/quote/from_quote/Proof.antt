@@ -1,16 +1,16 @@
 -- `quote::from_quote` meets its contract: each return by the tests that led there. Assumes nothing.
-use Rattle.explicit_black.specs.Quote.{fromQuote}
-use Rattle.inverse_gaussian.specs.Laws.Counted.{limited-now}
+use Rattle.explicit_black.specs.Quote.{from_quote}
+use Rattle.inverse_gaussian.specs.Laws.Counted.{limited_now}
 use borrow.Author.Tests.{eq-eqb, ne_eqb}
 use Rattle.explicit_black.proofs.quote.from_quote.Statement.{statement}
 use Rattle.explicit_black.proofs.quote.from_quote.Tie as tie
 
 returns : tie.Need-returns
-unfolding fromQuote
-returns c = rw (← c.before.first-refusal.ensures, ne_eqb _ _ c.if1.true, limited-now)
+unfolding from_quote
+returns c = rw (← c.before.first-refusal.ensures, ne_eqb _ _ c.if1.true, limited_now)
 
 returns-2 : tie.Need-returns-2
-unfolding fromQuote
+unfolding from_quote
 returns-2 c =
     let at_test = c.before in
     rw (← at_test.before.first-refusal.ensures, eq-eqb _ _ at_test.if1.false) c.from-figures.ensures

@@ -1,19 +1,19 @@
 -- `quote::from_time_value` meets its contract: each return by the tests that led there. Assumes nothing.
-use Rattle.explicit_black.specs.Quote.{fromTimeValue}
-use Rattle.inverse_gaussian.specs.Laws.Counted.{limited-now}
+use Rattle.explicit_black.specs.Quote.{from_time_value}
+use Rattle.inverse_gaussian.specs.Laws.Counted.{limited_now}
 use Rattle.explicit_black.proofs.quote.from_time_value.Statement.{statement}
 use Rattle.explicit_black.proofs.quote.from_time_value.Tie as tie
 
 returns : tie.Need-returns
-unfolding fromTimeValue
-returns c = rw (c.before.if1.true, c.if2.true, limited-now)
+unfolding from_time_value
+returns c = rw (c.before.if1.true, c.if2.true, limited_now)
 
 returns-2 : tie.Need-returns-2
-unfolding fromTimeValue
-returns-2 c = rw (c.before.if1.true, c.if2.false, limited-now)
+unfolding from_time_value
+returns-2 c = rw (c.before.if1.true, c.if2.false, limited_now)
 
 returns-3 : tie.Need-returns-3
-unfolding fromTimeValue
+unfolding from_time_value
 returns-3 c = rw (c.before.before.if1.false, ← c.before.negative-abs-log-moneyness.ensures) c.from-normalised-price.ensures
 
 pub from-time-value-spec : {M : Type 1} → statement M

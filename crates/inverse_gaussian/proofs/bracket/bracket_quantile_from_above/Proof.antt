@@ -3,9 +3,9 @@
 use borrow.Author.Rules.{rules}
 use mathlib.Core.Path.{ap}
 use Rattle.inverse_gaussian.specs.Counted.{limited}
-use Rattle.inverse_gaussian.specs.Bracket.{halvings, halvingLoop, bracketQuantileFromAbove}
-use Rattle.inverse_gaussian.specs.Internal.Searches.{viewEvaluation, viewWidening}
-use Rattle.inverse_gaussian.specs.Laws.Counted.{Carried, carried, carried-at, carried-spent, some-spent, some-have, fewer, seen}
+use Rattle.inverse_gaussian.specs.Bracket.{halvings, halving_loop, bracket_quantile_from_above}
+use Rattle.inverse_gaussian.specs.Internal.Searches.{view_evaluation, view_widening}
+use Rattle.inverse_gaussian.specs.Laws.Counted.{Carried, carried, carried-at, carried-spent, some_spent, some_have, fewer, seen}
 use Rattle.inverse_gaussian.proofs.HalvingEnds.{ends_above}
 use Rattle.inverse_gaussian.proofs.Turns.{told, turned, found}
 use Rattle.inverse_gaussian.proofs.bracket.bracket_quantile_from_above.Statement.{statement}
@@ -13,13 +13,13 @@ use Rattle.inverse_gaussian.proofs.bracket.bracket_quantile_from_above.Tie as ti
 
 abbrev invariant-loop : tie.invariant-loop
 invariant-loop initial mu probability trial₀ left₀ trial left =
-    Carried (halvingLoop mu probability) halvings (limited left₀.left (bracketQuantileFromAbove initial mu probability)) left.left (viewWidening trial)
+    Carried (halving_loop mu probability) halvings (limited left₀.left (bracket_quantile_from_above initial mu probability)) left.left (view_widening trial)
 
 abbrev decreases-loop : tie.decreases-loop
 decreases-loop initial mu probability trial₀ left₀ trial left = left.left
 
 loop-holds : tie.Need-loop-init invariant-loop decreases-loop
-unfolding bracketQuantileFromAbove
+unfolding bracket_quantile_from_above
 loop-holds c =
     let start = c.before in
     rw c.halved.ensures
@@ -28,28 +28,28 @@ loop-holds c =
 returns : tie.Need-returns invariant-loop decreases-loop
 returns c =
     let reached = c.before in
-    some-have _ _ _ _ (found reached.before.before.loop.invariant (ap viewWidening reached.trial.given.1))
+    some_have _ _ _ _ (found reached.before.before.loop.invariant (ap view_widening reached.trial.given.1))
 
 returns-2 : tie.Need-returns-2 invariant-loop decreases-loop
 returns-2 c =
     let at-cdf = c.before.before in
     let at-trial = at-cdf.before.before in
-    some-spent _ _
-    (carried-spent _ (carried-at at-trial.before.before.loop.invariant (ap viewWidening at-trial.trial2.given.1))
-    (seen (viewEvaluation _) at-cdf.inverse-gaussian-cdf.ensures c.enum_told.given.1))
+    some_spent _ _
+    (carried-spent _ (carried-at at-trial.before.before.loop.invariant (ap view_widening at-trial.trial2.given.1))
+    (seen (view_evaluation _) at-cdf.inverse-gaussian-cdf.ensures c.enum_told.given.1))
 
 loop-less : tie.Need-loop-smaller invariant-loop decreases-loop
 loop-less c =
     let at_value = c.before.before in
-    fewer _ (seen (viewEvaluation _) at_value.before.before.inverse-gaussian-cdf.ensures at_value.cdf.given.1)
+    fewer _ (seen (view_evaluation _) at_value.before.before.inverse-gaussian-cdf.ensures at_value.cdf.given.1)
 
 loop-again : tie.Need-loop-preserved invariant-loop decreases-loop
 loop-again c =
     let at_value = c.before.before in
     let at-cdf = at_value.before.before in
     let at-trial = at-cdf.before.before in
-    (turned (carried-at at-trial.before.before.loop.invariant (ap viewWidening at-trial.trial2.given.1))
-    (told (seen (viewEvaluation _) at-cdf.inverse-gaussian-cdf.ensures at_value.cdf.given.1)) c.lowered.ensures).carried
+    (turned (carried-at at-trial.before.before.loop.invariant (ap view_widening at-trial.trial2.given.1))
+    (told (seen (view_evaluation _) at-cdf.inverse-gaussian-cdf.ensures at_value.cdf.given.1)) c.lowered.ensures).carried
 
 pub bracket-quantile-from-above-spec : {M : Type 1} → statement M
 bracket-quantile-from-above-spec =

@@ -1,29 +1,29 @@
 -- `curves::inverse_gaussian_cdf` meets its contract. Assumes nothing.
 use borrow.Author.Rules.{rules}
-use Rattle.special_function.specs.Laws.SharedExponential.{pdf-of-square}
-use Rattle.inverse_gaussian.specs.Curves.{inverseGaussianCdf, inverseGaussianPdf}
-use Rattle.inverse_gaussian.specs.Laws.Counted.{tick-some, tick-none}
+use Rattle.special_function.specs.Laws.SharedExponential.{pdf_of_square}
+use Rattle.inverse_gaussian.specs.Curves.{inverse_gaussian_cdf, inverse_gaussian_pdf}
+use Rattle.inverse_gaussian.specs.Laws.Counted.{tick_some, tick_none}
 use Rattle.inverse_gaussian.proofs.curves.inverse_gaussian_cdf.Statement.{statement}
 use Rattle.inverse_gaussian.proofs.curves.inverse_gaussian_cdf.Tie as tie
 
 returns : tie.Need-returns
-returns c = tick-none _ _ c.if1.true
+returns c = tick_none _ _ c.if1.true
 
 returns-2 : tie.Need-returns-2
-unfolding inverseGaussianCdf inverseGaussianPdf
+unfolding inverse_gaussian_cdf inverse_gaussian_pdf
 returns-2 c =
     let at-erfcx = c.before in
     let at-norm-cdf = at-erfcx.before in
     let at-recip = at-norm-cdf.before.before in
     let at-sqrt = at-recip.before in
-    tick-some _ _ _ at-sqrt.before.if1.false
+    tick_some _ _ _ at-sqrt.before.if1.false
     (rw (
       at-erfcx.erfcx-cody.ensures,
       at-norm-cdf.norm-cdf.ensures,
       at-norm-cdf.before.exp.ensures,
       at-recip.recip.ensures,
       at-sqrt.sqrt.ensures,
-      pdf-of-square,
+      pdf_of_square,
     ))
     c.lowered.ensures
 

@@ -3,17 +3,17 @@ use borrow.Author.Rules.{rules}
 use mathlib.Core.Path.{sym}
 use lib.Ieee.{binary64}
 use Rattle.arithmetic.specs.Sqrt.{sqrt}
-use Rattle.arithmetic.specs.Laws.Identities.{div-neg}
-use Rattle.inverse_gaussian.specs.Curves.{inverseGaussianSurvival, inverseGaussianPdf}
-use Rattle.inverse_gaussian.specs.Laws.Counted.{tick-some, tick-none}
+use Rattle.arithmetic.specs.Laws.Identities.{div_neg}
+use Rattle.inverse_gaussian.specs.Curves.{inverse_gaussian_survival, inverse_gaussian_pdf}
+use Rattle.inverse_gaussian.specs.Laws.Counted.{tick_some, tick_none}
 use Rattle.inverse_gaussian.proofs.curves.inverse_gaussian_survival.Statement.{statement}
 use Rattle.inverse_gaussian.proofs.curves.inverse_gaussian_survival.Tie as tie
 
 returns : tie.Need-returns
-returns c = tick-none _ _ c.if1.true
+returns c = tick_none _ _ c.if1.true
 
 returns-2 : tie.Need-returns-2
-unfolding inverseGaussianSurvival inverseGaussianPdf
+unfolding inverse_gaussian_survival inverse_gaussian_pdf
 returns-2 c =
     let at-exp = c.before in
     let at-black = at-exp.before in
@@ -21,14 +21,14 @@ returns-2 c =
     let at-sqrt = at-recip.before in
     let at_test = at-sqrt.before in
     let start = at_test.before.before in
-    tick-some _ _ _ at_test.if1.false
+    tick_some _ _ _ at_test.if1.false
     (rw (
       at-exp.exp.ensures,
       at-black.normalised-black.ensures,
       at-black.before.recip2.ensures,
       at-recip.recip.ensures,
       at-sqrt.sqrt.ensures,
-      sym (div-neg binary64 (sqrt start.args.x) start.args.mu),
+      sym (div_neg binary64 (sqrt start.args.x) start.args.mu),
     ))
     c.lowered.ensures
 

@@ -1,18 +1,18 @@
 -- `initial_guess::inverse_gaussian_quantile_initial_guess_from_z` meets its contract. Assumes nothing.
-use Rattle.inverse_gaussian.specs.Curves.{inverseGaussianQuantileInitialGuessFromZ}
+use Rattle.inverse_gaussian.specs.Curves.{inverse_gaussian_quantile_initial_guess_from_z}
 use Rattle.inverse_gaussian.proofs.initial_guess.inverse_gaussian_quantile_initial_guess_from_z.Statement.{
   statement,
 }
 use Rattle.inverse_gaussian.proofs.initial_guess.inverse_gaussian_quantile_initial_guess_from_z.Tie as tie
 
 returns : tie.Need-returns
-unfolding inverseGaussianQuantileInitialGuessFromZ
+unfolding inverse_gaussian_quantile_initial_guess_from_z
 returns c =
     let at-sqrt = c.before.before in
     rw (c.before.if1.true, c.mul-add2.ensures, at-sqrt.sqrt.ensures, at-sqrt.before.mul-add.ensures)
 
 returns-2 : tie.Need-returns-2
-unfolding inverseGaussianQuantileInitialGuessFromZ
+unfolding inverse_gaussian_quantile_initial_guess_from_z
 returns-2 c =
     let at-sqrt = c.before in
     rw (c.if1.false, at-sqrt.sqrt.ensures, at-sqrt.before.mul-add.ensures)

@@ -5,26 +5,26 @@ use lib.Dec.{T}
 use denote.Floats.{passes}
 use lib.Ieee.{Float, nan, inf, fin, binary64, lt, le, fits, of_bits}
 use lib.Ieee.Bits.{is_true}
-use Rattle.arithmetic.specs.Operations.{plusZero, maxFinite}
+use Rattle.arithmetic.specs.Operations.{plus_zero, max_finite}
 use Rattle.arithmetic.specs.Basic.{is_finite}
-use Rattle.arithmetic.specs.Laws.Bounds.{at-most-max}
-use Rattle.inverse_gaussian.specs.Curves.{finitePositive}
+use Rattle.arithmetic.specs.Laws.Bounds.{at_most_max}
+use Rattle.inverse_gaussian.specs.Curves.{finite_positive}
 use Rattle.inverse_gaussian.proofs.initial_guess.is_finite_positive.Statement.{statement}
 use Rattle.inverse_gaussian.proofs.initial_guess.is_finite_positive.Tie as tie
 
 -- of what is above 0 the infinity alone is above the largest finite value
-above_zero : (x : Float) → T (fits binary64 x) → lt plusZero x ≡ true → le x maxFinite ≡ finitePositive x
+above_zero : (x : Float) → T (fits binary64 x) → lt plus_zero x ≡ true → le x max_finite ≡ finite_positive x
 unfolding lt le of_bits
 above_zero nan F h = absurd (false≢true h)
 above_zero (inf true) F h = absurd (false≢true h)
 above_zero (inf false) F h = refl
 above_zero (fin true m e) F h = absurd (false≢true h)
-above_zero (fin false m e) F h = rw (is_true (le (fin false m e) maxFinite) (at-most-max (fin false m e) F tt refl), h) refl
+above_zero (fin false m e) F h = rw (is_true (le (fin false m e) max_finite) (at_most_max (fin false m e) F tt refl), h) refl
 
-not-above : (x : Float) → lt plusZero x ≡ false → false ≡ finitePositive x
-not-above x h = rw (h, and-false (is_finite x)) refl
+not_above : (x : Float) → lt plus_zero x ≡ false → false ≡ finite_positive x
+not_above x h = rw (h, and-false (is_finite x)) refl
 
 pub is-finite-positive-spec : {M : Type 1} → statement M
 is-finite-positive-spec =
     tie.close
-    (tie.spec (λ c. above_zero _ (passes _ c.before.well-formed.0.1) c.if1.true) (λ c. not-above _ c.if1.false))
+    (tie.spec (λ c. above_zero _ (passes _ c.before.well-formed.0.1) c.if1.true) (λ c. not_above _ c.if1.false))

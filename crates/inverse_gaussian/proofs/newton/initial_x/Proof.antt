@@ -1,15 +1,15 @@
 -- `newton::initial_x` meets its contract. Assumes nothing.
 use mathlib.Core.Path.{sym, ◌∙◌}
-use Rattle.inverse_gaussian.specs.Newton.{initialX}
+use Rattle.inverse_gaussian.specs.Newton.{initial_x}
 use Rattle.inverse_gaussian.proofs.newton.initial_x.Statement.{statement}
 use Rattle.inverse_gaussian.proofs.newton.initial_x.Tie as tie
 
 returns : tie.Need-returns
-unfolding initialX
+unfolding initial_x
 returns c = rw (← c.before.before.seed.ensures, sym c.before.is-finite-positive.ensures ∙ c.if1.true)
 
 returns-2 : tie.Need-returns-2
-unfolding initialX
+unfolding initial_x
 returns-2 c =
     let at-mode = c.before in
     let at_test = at-mode.before.before in

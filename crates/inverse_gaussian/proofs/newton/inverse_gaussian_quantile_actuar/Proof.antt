@@ -1,6 +1,6 @@
 -- `newton::inverse_gaussian_quantile_actuar` meets its contract. Assumes nothing.
 use borrow.Author.Rules.{rules}
-use Rattle.inverse_gaussian.specs.Internal.Searches.{viewEvaluation}
+use Rattle.inverse_gaussian.specs.Internal.Searches.{view_evaluation}
 use Rattle.inverse_gaussian.specs.Laws.Counted.{seen}
 use Rattle.inverse_gaussian.proofs.Turns.{told}
 use Rattle.inverse_gaussian.proofs.Searches.{no_step, from_step}
@@ -10,7 +10,7 @@ use Rattle.inverse_gaussian.proofs.newton.inverse_gaussian_quantile_actuar.State
 use Rattle.inverse_gaussian.proofs.newton.inverse_gaussian_quantile_actuar.Tie as tie
 
 returns : tie.Need-returns
-returns c = no_step _ _ _ _ (seen (viewEvaluation _) c.before.before.inverse-gaussian-cdf.ensures c.enum_told.given.1)
+returns c = no_step _ _ _ _ (seen (view_evaluation _) c.before.before.inverse-gaussian-cdf.ensures c.enum_told.given.1)
 
 returns-2 : tie.Need-returns-2
 returns-2 c =
@@ -22,7 +22,7 @@ returns-2 c =
     let at-cdf = at_value.before.before in
     let at-start = at-cdf.before in
     from_step _ _ at-start.before.ln.ensures at-start.initial-x.ensures
-    (told (seen (viewEvaluation _) at-cdf.inverse-gaussian-cdf.ensures at_value.cdf.given.1))
+    (told (seen (view_evaluation _) at-cdf.inverse-gaussian-cdf.ensures at_value.cdf.given.1))
     at-numerator.numerator.ensures (rw at-pdf.pdf-by-exponential.ensures at at-nrstep.nrstep.ensures)
     at_first.first.ensures c.steps.ensures
 

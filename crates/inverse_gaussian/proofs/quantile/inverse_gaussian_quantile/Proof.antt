@@ -4,9 +4,9 @@ use mathlib.Core.Path.{◌≡◌}
 use mathlib.Core.Bool.{true}
 use Rattle.arithmetic.specs.Laws.Numbers.{denied, affirmed}
 use Rattle.inverse_gaussian.specs.Quantile.{solvable}
-use Rattle.inverse_gaussian.specs.Internal.Searches.{viewQuantile}
+use Rattle.inverse_gaussian.specs.Internal.Searches.{view_quantile}
 use Rattle.inverse_gaussian.specs.Laws.Counted.{seen}
-use Rattle.inverse_gaussian.proofs.Searches.{solvable-finite-positive, unsolvable, newton-root, newton-none, newton-spent}
+use Rattle.inverse_gaussian.proofs.Searches.{solvable_finite_positive, unsolvable, newton-root, newton-none, newton-spent}
 use Rattle.inverse_gaussian.proofs.quantile.inverse_gaussian_quantile.Statement.{statement}
 use Rattle.inverse_gaussian.proofs.quantile.inverse_gaussian_quantile.Tie as tie
 
@@ -23,7 +23,7 @@ inverse-gaussian-quantile-bracketed-requires c κs =
     let at-filter = no-root.before.before in
     let at_test = at-filter.before.before in
     let start = at_test.before.before in
-    solvable-finite-positive start.args.probability start.args.mu (passed at_test)
+    solvable_finite_positive start.args.probability start.args.mu (passed at_test)
 
 returns-2 : tie.Need-returns-2
 returns-2 c =
@@ -31,7 +31,7 @@ returns-2 c =
     let at-filter = root.before.before in
     let at-newton = at-filter.before in
     newton-root _ _ _ _ (passed at-newton.before) at-newton.inverse-gaussian-quantile-actuar.ensures
-    (seen viewQuantile at-filter.filtered.ensures root.root.given.1)
+    (seen view_quantile at-filter.filtered.ensures root.root.given.1)
 
 returns-3 : tie.Need-returns-3
 returns-3 c =
@@ -39,14 +39,14 @@ returns-3 c =
     let at-filter = no-root.before.before in
     let at-newton = at-filter.before in
     newton-none _ _ _ _ (passed at-newton.before) at-newton.inverse-gaussian-quantile-actuar.ensures
-    (seen viewQuantile at-filter.filtered.ensures no-root.left.given.1) c.inverse-gaussian-quantile-bracketed.ensures
+    (seen view_quantile at-filter.filtered.ensures no-root.left.given.1) c.inverse-gaussian-quantile-bracketed.ensures
 
 returns-4 : tie.Need-returns-4
 returns-4 c =
     let at-filter = c.before.before in
     let at-newton = at-filter.before in
     newton-spent _ _ _ _ (passed at-newton.before) at-newton.inverse-gaussian-quantile-actuar.ensures
-    (seen viewQuantile at-filter.filtered.ensures c.enum_told.given.1)
+    (seen view_quantile at-filter.filtered.ensures c.enum_told.given.1)
 
 pub inverse-gaussian-quantile-spec : {M : Type 1} → statement M
 inverse-gaussian-quantile-spec =

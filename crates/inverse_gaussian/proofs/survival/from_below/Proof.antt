@@ -8,31 +8,31 @@ use Rattle.inverse_gaussian.specs.declared.bracket.Bracket.{Bracket}
 use Rattle.inverse_gaussian.specs.Counted.{Option, Metered, limited}
 use Rattle.inverse_gaussian.specs.Loops.{go}
 use Rattle.inverse_gaussian.specs.Bracket.{doublings}
-use Rattle.inverse_gaussian.specs.Survival.{survivalDoublingLoop, survivalFromBelow}
-use Rattle.inverse_gaussian.specs.Internal.Searches.{viewSurvivalEvaluation, viewDoubling}
+use Rattle.inverse_gaussian.specs.Survival.{survival_doubling_loop, survival_from_below}
+use Rattle.inverse_gaussian.specs.Internal.Searches.{view_survival_evaluation, view_doubling}
 use Rattle.inverse_gaussian.specs.Laws.Counted.{Carried, carried, carried-at, carried-spent, seen}
-use Rattle.inverse_gaussian.proofs.DoublingEnds.{survival-ends-below}
+use Rattle.inverse_gaussian.proofs.DoublingEnds.{survival_ends_below}
 use Rattle.inverse_gaussian.proofs.Turns.{told, Turned, turned, found}
 use Rattle.inverse_gaussian.proofs.survival.from_below.Statement.{statement}
 use Rattle.inverse_gaussian.proofs.survival.from_below.Tie as tie
 
 -- what the whole search gives where so many evaluations are allowed
 abbrev whole : Float → Float → Float → ℕ → Metered (Option Bracket)
-whole initial mu p allowed = limited allowed (survivalFromBelow initial mu p)
+whole initial mu p allowed = limited allowed (survival_from_below initial mu p)
 
 abbrev invariant-loop : tie.invariant-loop
 invariant-loop initial mu probability bracket₀ left₀ bracket left =
-    Carried (survivalDoublingLoop mu probability) doublings (whole initial mu probability left₀.left) left.left (go bracket)
+    Carried (survival_doubling_loop mu probability) doublings (whole initial mu probability left₀.left) left.left (go bracket)
 
 abbrev decreases-loop : tie.decreases-loop
 decreases-loop initial mu probability bracket₀ left₀ bracket left = left.left
 
 loop-holds : tie.Need-loop-init invariant-loop decreases-loop
-unfolding survivalFromBelow
+unfolding survival_from_below
 loop-holds c =
     let start = c.before in
     rw c.capped-from.ensures
-    (carried (survival-ends-below start.args.mu start.args.probability start.args.initial start.requires start.well-formed.0.1))
+    (carried (survival_ends_below start.args.mu start.args.probability start.args.initial start.requires start.well-formed.0.1))
 
 -- how many are allowed after the evaluation
 abbrev rest : tie.After-survival invariant-loop decreases-loop → ℕ
@@ -44,29 +44,29 @@ turn : (c : tie.After-survival-widened invariant-loop decreases-loop) →
     let at-survival = at_value.before.before in
     let at-loop = at-survival.before in
     let args = at-loop.before.before.args in
-    Turned (survivalDoublingLoop args.mu args.probability) doublings
+    Turned (survival_doubling_loop args.mu args.probability) doublings
     (whole args.initial args.mu args.probability args.allowed.left)
-    at-loop.loop.left.left (rest at_value) (viewDoubling c.survival-widened.result)
+    at-loop.loop.left.left (rest at_value) (view_doubling c.survival-widened.result)
 turn c =
     let at_value = c.before.before in
     let at-survival = at_value.before.before in
     turned at-survival.before.loop.invariant
-    (told (seen (viewSurvivalEvaluation _) at-survival.inverse-gaussian-survival.ensures at_value.survival.given.1))
+    (told (seen (view_survival_evaluation _) at-survival.inverse-gaussian-survival.ensures at_value.survival.given.1))
     c.survival-widened.ensures
 
 returns : tie.Need-returns invariant-loop decreases-loop
 returns c =
     let at-survival = c.before.before in
-    let no_value = seen (viewSurvivalEvaluation _) at-survival.inverse-gaussian-survival.ensures c.enum_told.given.1 in
+    let no_value = seen (view_survival_evaluation _) at-survival.inverse-gaussian-survival.ensures c.enum_told.given.1 in
     carried-spent _ at-survival.before.loop.invariant no_value
 
 returns-2 : tie.Need-returns-2 invariant-loop decreases-loop
 returns-2 c =
     let reached = c.before in
-    found (turn reached.before.before).carried (ap viewDoubling reached.b.given.1)
+    found (turn reached.before.before).carried (ap view_doubling reached.b.given.1)
 
 returns-3 : tie.Need-returns-3 invariant-loop decreases-loop
-returns-3 c = found (turn c.before.before).carried (ap viewDoubling c.enum-told2.given.1)
+returns-3 c = found (turn c.before.before).carried (ap view_doubling c.enum-told2.given.1)
 
 loop-less : tie.Need-loop-smaller invariant-loop decreases-loop
 loop-less c =
@@ -76,7 +76,7 @@ loop-less c =
 loop-again : tie.Need-loop-preserved invariant-loop decreases-loop
 loop-again c =
     let wider = c.before in
-    carried-at (turn wider.before.before).carried (ap viewDoubling wider.b2.given.1)
+    carried-at (turn wider.before.before).carried (ap view_doubling wider.b2.given.1)
 
 pub from-below-spec : {M : Type 1} → statement M
 from-below-spec =

@@ -6,12 +6,12 @@ use lib.Ieee.{Float}
 use Rattle.arithmetic.specs.Laws.Numbers.{denied, affirmed}
 use Rattle.inverse_gaussian.specs.Counted.{Option, Metered, limited}
 use Rattle.inverse_gaussian.specs.Quantile.{solvable}
-use Rattle.inverse_gaussian.specs.Survival.{inverseGaussianQuantileFromSurvival}
-use Rattle.inverse_gaussian.specs.Internal.Searches.{viewSurvivalEvaluation, viewReach}
+use Rattle.inverse_gaussian.specs.Survival.{inverse_gaussian_quantile_from_survival}
+use Rattle.inverse_gaussian.specs.Internal.Searches.{view_survival_evaluation, view_reach}
 use Rattle.inverse_gaussian.specs.Laws.Counted.{seen}
 use Rattle.inverse_gaussian.proofs.Turns.{told}
-use Rattle.inverse_gaussian.proofs.Searches.{solvable-finite-positive, start-finite-positive, no-bracket, nowhere, in-bracket}
-use Rattle.inverse_gaussian.proofs.Searches.{survival-unsolvable, survival-no-guess, survivalFrom, survival-from-guess}
+use Rattle.inverse_gaussian.proofs.Searches.{solvable_finite_positive, start_finite_positive, no-bracket, nowhere, in-bracket}
+use Rattle.inverse_gaussian.proofs.Searches.{survival-unsolvable, survival-no-guess, survival_from, survival-from-guess}
 use Rattle.inverse_gaussian.proofs.survival.inverse_gaussian_quantile_from_survival.Statement.{
   statement,
 }
@@ -30,7 +30,7 @@ returns-2 c =
     let at-start = at-survival.before in
     let at-norm-cdf = at-start.before.before in
     survival-no-guess _ _ _ _ (passed at-norm-cdf.before)
-    (seen (viewSurvivalEvaluation _) at-survival.inverse-gaussian-survival.ensures c.enum_told.given.1)
+    (seen (view_survival_evaluation _) at-survival.inverse-gaussian-survival.ensures c.enum_told.given.1)
 
 survival-bracket-at-requires : tie.Need-survival-bracket-at-requires
 survival-bracket-at-requires c κs =
@@ -40,7 +40,7 @@ survival-bracket-at-requires c κs =
     let at-norm-cdf = at-start.before.before in
     let at_test = at-norm-cdf.before in
     let start = at_test.before.before in
-    start-finite-positive _ _ _ (solvable-finite-positive start.args.probability start.args.mu (passed at_test))
+    start_finite_positive _ _ _ (solvable_finite_positive start.args.probability start.args.mu (passed at_test))
     at-start.starting-point.ensures
 
 -- what follows from the value at the starting point is what the whole gives
@@ -51,33 +51,33 @@ from-value : (c : tie.After-survival) {q : Metered (Option Float)} →
     let at_test = at-norm-cdf.before in
     let args = at_test.before.before.args in
     q ≡ limited c.survival.given.0.1.1.1.0.left
-    (survivalFrom args.probability args.mu at-start.starting-point.result c.survival.given.0.0)
-    → q ≡ limited args.allowed.left (inverseGaussianQuantileFromSurvival args.probability args.mu)
+    (survival_from args.probability args.mu at-start.starting-point.result c.survival.given.0.0)
+    → q ≡ limited args.allowed.left (inverse_gaussian_quantile_from_survival args.probability args.mu)
 from-value c h =
     let at-survival = c.before.before in
     let at-start = at-survival.before in
     let at-norm-cdf = at-start.before.before in
     survival-from-guess _ _ (passed at-norm-cdf.before) at-norm-cdf.inverse-norm-cdf.ensures
     at-start.before.inverse-gaussian-quantile-initial-guess-from-z.ensures at-start.starting-point.ensures
-    (told (seen (viewSurvivalEvaluation _) at-survival.inverse-gaussian-survival.ensures c.survival.given.1)) h
+    (told (seen (view_survival_evaluation _) at-survival.inverse-gaussian-survival.ensures c.survival.given.1)) h
 
 returns-3 : tie.Need-returns-3
 returns-3 c =
     let found = c.before.before in
     let at_Bracket = found.before.before in
     from-value at_Bracket.before.before
-    (in-bracket _ _ _ (seen viewReach at_Bracket.survival-bracket-at.ensures found.bracket.given.1) c.survival-iterations.ensures)
+    (in-bracket _ _ _ (seen view_reach at_Bracket.survival-bracket-at.ensures found.bracket.given.1) c.survival-iterations.ensures)
 
 returns-4 : tie.Need-returns-4
 returns-4 c =
     let None-found = c.before in
     let at_Bracket = None-found.before.before in
-    from-value at_Bracket.before.before (nowhere _ _ _ (seen viewReach at_Bracket.survival-bracket-at.ensures None-found.left.given.1))
+    from-value at_Bracket.before.before (nowhere _ _ _ (seen view_reach at_Bracket.survival-bracket-at.ensures None-found.left.given.1))
 
 returns-5 : tie.Need-returns-5
 returns-5 c =
     let at_Bracket = c.before.before in
-    from-value at_Bracket.before.before (no-bracket _ _ _ (seen viewReach at_Bracket.survival-bracket-at.ensures c.enum-told2.given.1))
+    from-value at_Bracket.before.before (no-bracket _ _ _ (seen view_reach at_Bracket.survival-bracket-at.ensures c.enum-told2.given.1))
 
 pub inverse-gaussian-quantile-from-survival-spec : {M : Type 1} → statement M
 inverse-gaussian-quantile-from-survival-spec =

@@ -8,28 +8,28 @@ use lib.Ieee.{Float}
 use Rattle.inverse_gaussian.specs.declared.bracket.Bracket.{Bracket}
 use Rattle.inverse_gaussian.specs.Counted.{Metered, limited}
 use Rattle.inverse_gaussian.specs.Loops.{go}
-use Rattle.inverse_gaussian.specs.Curves.{inverseGaussianSurvival}
-use Rattle.inverse_gaussian.specs.Survival.{survivalIteration, survivalIterationLoop, survivalIterations}
-use Rattle.inverse_gaussian.specs.Internal.Searches.{viewSurvivalEvaluation, viewIteration}
-use Rattle.inverse_gaussian.specs.Laws.Counted.{Left, left_at, left_out, some-spent, some-have, seen}
+use Rattle.inverse_gaussian.specs.Curves.{inverse_gaussian_survival}
+use Rattle.inverse_gaussian.specs.Survival.{survival_iteration, survival_iteration_loop, survival_iterations}
+use Rattle.inverse_gaussian.specs.Internal.Searches.{view_survival_evaluation, view_iteration}
+use Rattle.inverse_gaussian.specs.Laws.Counted.{Left, left_at, left_out, some_spent, some_have, seen}
 use Rattle.inverse_gaussian.proofs.Turns.{told, iterated, left-found, left-no-value}
 use Rattle.inverse_gaussian.proofs.survival.survival_iterations.Statement.{statement}
 use Rattle.inverse_gaussian.proofs.survival.survival_iterations.Tie as tie
 
 -- what the whole search gives where so many evaluations are allowed
 abbrev whole : Float → Float → Bracket → Float → ℕ → Metered Float
-whole mu p start guess allowed = limited allowed (survivalIterations mu p start guess)
+whole mu p start guess allowed = limited allowed (survival_iterations mu p start guess)
 
 abbrev invariant-loop : tie.invariant-loop
 invariant-loop guess mu probability bracket₀ x₀ left₀ counter₀ bracket x left counter =
-    Left (survivalIterationLoop mu probability) (64 - counter) (whole mu probability bracket₀ x₀ left₀.left) left.left (go (bracket, x))
+    Left (survival_iteration_loop mu probability) (64 - counter) (whole mu probability bracket₀ x₀ left₀.left) left.left (go (bracket, x))
     × (counter ≤ 64)
 
 abbrev decreases-loop : tie.decreases-loop
 decreases-loop guess mu probability bracket₀ x₀ left₀ counter₀ bracket x left counter = 64 - counter
 
 loop-holds : tie.Need-loop-init invariant-loop decreases-loop
-unfolding survivalIterations
+unfolding survival_iterations
 loop-holds c = (record { same = refl }, omega arith)
 
 -- one iteration, from the loop's bracket and point to what `survival_iteration` makes of the value there
@@ -39,37 +39,37 @@ turn : (c : tie.After-survival-iteration invariant-loop decreases-loop) →
     let at-survival = at_value.before.before in
     let at-loop = at-survival.before.before in
     let args = at-loop.before.args in
-    Left (survivalIterationLoop args.mu args.probability) (64 - (at-loop.loop.counter + 1))
+    Left (survival_iteration_loop args.mu args.probability) (64 - (at-loop.loop.counter + 1))
     (whole args.mu args.probability args.start args.guess args.allowed.left)
-    at_value.survival.given.0.1.1.1.0.left (viewIteration c.survival-iteration.result)
+    at_value.survival.given.0.1.1.1.0.left (view_iteration c.survival-iteration.result)
 turn c =
     let at-pdf = c.before in
     let at_value = at-pdf.before.before in
     let at-survival = at_value.before.before in
-    iterated inverseGaussianSurvival survivalIteration at-survival.before.before.loop.invariant.0 (omega arith)
-    (told (seen (viewSurvivalEvaluation _) at-survival.inverse-gaussian-survival.ensures at_value.survival.given.1))
+    iterated inverse_gaussian_survival survival_iteration at-survival.before.before.loop.invariant.0 (omega arith)
+    (told (seen (view_survival_evaluation _) at-survival.inverse-gaussian-survival.ensures at_value.survival.given.1))
     at-pdf.inverse-gaussian-pdf.ensures c.survival-iteration.ensures
 
 returns : tie.Need-returns invariant-loop decreases-loop
 returns c =
     let at-survival = c.before.before in
-    let no_value = seen (viewSurvivalEvaluation _) at-survival.inverse-gaussian-survival.ensures c.enum_told.given.1 in
-    some-spent _ _ (left-no-value _ at-survival.before.before.loop.invariant.0 (omega arith) no_value)
+    let no_value = seen (view_survival_evaluation _) at-survival.inverse-gaussian-survival.ensures c.enum_told.given.1 in
+    some_spent _ _ (left-no-value _ at-survival.before.before.loop.invariant.0 (omega arith) no_value)
 
 returns-2 : tie.Need-returns-2 invariant-loop decreases-loop
 returns-2 c =
     let ended = c.before in
-    some-have _ _ _ _ (left-found (turn ended.before.before) (ap viewIteration ended.root.given.1))
+    some_have _ _ _ _ (left-found (turn ended.before.before) (ap view_iteration ended.root.given.1))
 
 loop-again : tie.Need-loop-preserved invariant-loop decreases-loop
 loop-again c =
     let again = c.before in
-    (left_at (turn again.before.before) (ap viewIteration again.b.given.1), omega arith)
+    (left_at (turn again.before.before) (ap view_iteration again.b.given.1), omega arith)
 
 returns-3 : tie.Need-returns-3 invariant-loop decreases-loop
 returns-3 c =
     let at-loop = c.before.before in
-    rw c.bracket-midpoint.ensures (some-have _ _ _ _ (sym (left_out at-loop.loop.invariant.0 (omega arith))))
+    rw c.bracket-midpoint.ensures (some_have _ _ _ _ (sym (left_out at-loop.loop.invariant.0 (omega arith))))
 
 pub survival-iterations-spec : {M : Type 1} → statement M
 survival-iterations-spec =

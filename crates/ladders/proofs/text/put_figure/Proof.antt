@@ -1,11 +1,11 @@
 -- `text::put_figure` meets its contract: no bits of a NaN are read. Assumes nothing.
-use Rattle.arithmetic.specs.Laws.Signs.{has-bits}
+use Rattle.arithmetic.specs.Laws.Signs.{has_bits}
 use borrow.Author.Rules.{rules}
 use Rattle.ladders.proofs.text.put_figure.Statement.{statement}
 use Rattle.ladders.proofs.text.put_figure.Tie as tie
 
 float-to-bits-print-hex : tie.Need-float-to-bits-print-hex
-float-to-bits-print-hex c = has-bits c.before.args.x c.if1.false
+float-to-bits-print-hex c = has_bits c.before.args.x c.if1.false
 
 pub put-figure-spec : {M : Type 1} → statement M
 put-figure-spec =

@@ -1,22 +1,22 @@
 -- `error_function::erfc_cody` meets its contract: the tests that led to each return pick the definition's case. Assumes nothing.
-use Rattle.special_function.specs.ErrorFunction.{erfcCody}
+use Rattle.special_function.specs.ErrorFunction.{erfc_cody}
 use Rattle.special_function.proofs.error_function.erfc_cody.Statement.{statement}
 use Rattle.special_function.proofs.error_function.erfc_cody.Tie as tie
 
 returns : tie.Need-returns
-unfolding erfcCody
+unfolding erfc_cody
 returns c =
     let at-threshold = c.before.before in
     rw (← at-threshold.before.abs.ensures, at-threshold.if1.true) cc
 
 returns-2 : tie.Need-returns-2
-unfolding erfcCody
+unfolding erfc_cody
 returns-2 c =
     let at-threshold = c.before.before in
     rw (← at-threshold.before.abs.ensures, at-threshold.if1.false, c.if2.true) cc
 
 returns-3 : tie.Need-returns-3
-unfolding erfcCody
+unfolding erfc_cody
 returns-3 c =
     let at-threshold = c.before.before in
     rw (← at-threshold.before.abs.ensures, at-threshold.if1.false, c.if2.false) cc

@@ -3,7 +3,7 @@
 use lib.Dec.{T}
 use lib.Ieee.{Float, binary64, fits}
 use denote.Floats.{passes}
-use Rattle.special_function.specs.ErrorFunction.{smoothenedExponentialOfNegativeSquare}
+use Rattle.special_function.specs.ErrorFunction.{smoothened_exponential_of_negative_square}
 use Rattle.special_function.proofs.Sixteenths.{InTable, in_table, no_nan, index-range, by-table}
 use Rattle.special_function.proofs.error_function.smoothened_exponential_of_negative_square.Statement.{statement}
 use Rattle.special_function.proofs.error_function.smoothened_exponential_of_negative_square.Tie as tie
@@ -31,7 +31,7 @@ returns c =
     rw (after-power.power_at.ensures, c.exp.ensures) (by-table (arg at) (held at) (found at) (passes _ at.if2.true))
 
 returns-2 : tie.Need-returns-2
-unfolding smoothenedExponentialOfNegativeSquare
+unfolding smoothened_exponential_of_negative_square
 returns-2 c = rw (c.exp-product.ensures, c.before.trunc.ensures)
 
 pub smoothened-exponential-of-negative-square-spec : {M : Type 1} → statement M

@@ -3,11 +3,11 @@
 use mathlib.Core.Path.{◌≡◌, sym, ◌∙◌}
 use mathlib.Core.Bool.{true}
 use borrow.Author.Tests.{not-true, not-false}
-use Rattle.special_function.specs.NormalDistribution.{goesOn}
+use Rattle.special_function.specs.NormalDistribution.{goes_on}
 use Rattle.special_function.proofs.AsymptoticSum.{
-  magnitudeInUnits,
+  magnitude_in_units,
   LoopInvariant,
-  invariant-start,
+  invariant_start,
   magnitude-falls,
   invariant-next,
   sum-at-stop,
@@ -19,10 +19,10 @@ abbrev invariant-loop : tie.invariant-loop
 invariant-loop zsqr s₀ s = LoopInvariant zsqr s
 
 abbrev decreases-loop : tie.decreases-loop
-decreases-loop zsqr s₀ s = magnitudeInUnits s.a
+decreases-loop zsqr s₀ s = magnitude_in_units s.a
 
 loop-holds : tie.Need-loop-init invariant-loop decreases-loop
-loop-holds c = invariant-start _
+loop-holds c = invariant_start _
 
 returns : tie.Need-returns invariant-loop decreases-loop
 returns c =
@@ -32,7 +32,7 @@ returns c =
 
 -- where the test lets the loop go on, so does the definition's
 goes_on : (c : tie.Else1 invariant-loop decreases-loop) → let after_next = c.before.before in
-    goesOn after_next.before.loop.s.a after_next.next.result ≡ true
+    goes_on after_next.before.loop.s.a after_next.next.result ≡ true
 goes_on c = sym c.before.goes_on.ensures ∙ not-false _ c.if1.false
 
 loop-less : tie.Need-loop-smaller invariant-loop decreases-loop

@@ -1,23 +1,23 @@
 -- `normal_distribution::inverse_norm_cdf` meets its contract: the tests that led to each return pick the definition's case. Assumes nothing.
-use Rattle.special_function.specs.NormalDistribution.{inverseNormCdf}
+use Rattle.special_function.specs.NormalDistribution.{inverse_norm_cdf}
 use Rattle.special_function.proofs.normal_distribution.inverse_norm_cdf.Statement.{statement}
 use Rattle.special_function.proofs.normal_distribution.inverse_norm_cdf.Tie as tie
 
 returns : tie.Need-returns
-unfolding inverseNormCdf
+unfolding inverse_norm_cdf
 returns c =
     let at-midrange = c.before in
     rw (← at-midrange.before.abs.ensures, at-midrange.if1.true) cc
 
 returns-2 : tie.Need-returns-2
-unfolding inverseNormCdf
+unfolding inverse_norm_cdf
 returns-2 c =
     let at_sign = c.before in
     let at-midrange = at_sign.before in
     rw (← at-midrange.before.abs.ensures, at-midrange.if1.false, at_sign.if2.true) cc
 
 returns-3 : tie.Need-returns-3
-unfolding inverseNormCdf
+unfolding inverse_norm_cdf
 returns-3 c =
     let at_sign = c.before in
     let at-midrange = at_sign.before in

@@ -5,7 +5,7 @@ use lib.Ieee.{neg}
 use borrow.Author.Rules.{rules}
 use Rattle.arithmetic.specs.Sqrt.{sqrt}
 use Rattle.arithmetic.specs.Ln.{ln}
-use Rattle.special_function.specs.NormalDistribution.{inverseNormCdfForLowProbabilities}
+use Rattle.special_function.specs.NormalDistribution.{inverse_norm_cdf_for_low_probabilities}
 use Rattle.special_function.proofs.normal_distribution.inverse_norm_cdf_for_low_probabilities.Statement.{statement}
 use Rattle.special_function.proofs.normal_distribution.inverse_norm_cdf_for_low_probabilities.Tie as tie
 
@@ -14,14 +14,14 @@ r-is : (c : tie.After-sqrt) → c.sqrt.result ≡ sqrt (neg (ln c.before.before.
 r-is c = cc
 
 returns : tie.Need-returns
-unfolding inverseNormCdfForLowProbabilities
+unfolding inverse_norm_cdf_for_low_probabilities
 returns c =
     let at-arguments = c.before.before in
     let at-I = at-arguments.before in
     rw (← r-is at-I.before, at-I.if1.true, c.rational.ensures)
 
 returns-2 : tie.Need-returns-2
-unfolding inverseNormCdfForLowProbabilities
+unfolding inverse_norm_cdf_for_low_probabilities
 returns-2 c =
     let at-arguments = c.before.before in
     let at-II = at-arguments.before in
@@ -29,7 +29,7 @@ returns-2 c =
     rw (← r-is at-I.before, at-I.if1.false, at-II.if2.true, c.rational2.ensures)
 
 returns-3 : tie.Need-returns-3
-unfolding inverseNormCdfForLowProbabilities
+unfolding inverse_norm_cdf_for_low_probabilities
 returns-3 c =
     let at-arguments = c.before.before in
     let at-III = at-arguments.before in
@@ -38,7 +38,7 @@ returns-3 c =
     rw (← r-is at-I.before, at-I.if1.false, at-II.if2.false, at-III.if3.true, c.rational3.ensures)
 
 returns-4 : tie.Need-returns-4
-unfolding inverseNormCdfForLowProbabilities
+unfolding inverse_norm_cdf_for_low_probabilities
 returns-4 c =
     let at-arguments = c.before.before in
     let at-IV = at-arguments.before in
@@ -48,7 +48,7 @@ returns-4 c =
     rw (← r-is at-I.before, at-I.if1.false, at-II.if2.false, at-III.if3.false, at-IV.if4.true, c.rational4.ensures)
 
 returns-5 : tie.Need-returns-5
-unfolding inverseNormCdfForLowProbabilities
+unfolding inverse_norm_cdf_for_low_probabilities
 returns-5 c =
     let at-arguments = c.before.before in
     let at-IV = at-arguments.before in

@@ -4,16 +4,16 @@ use mathlib.Core.Path.{◌≡◌, refl}
 use borrow.Author.Rules.{rules}
 use lib.Ieee.{mul, of_bits}
 use Rattle.arithmetic.specs.Operations.{◌⊗◌, bits}
-use Rattle.special_function.specs.NormalDistribution.{uMax, inverseNormCdfmHalfForMidrangeProbabilities}
+use Rattle.special_function.specs.NormalDistribution.{u_max, inverse_norm_cdfm_half_for_midrange_probabilities}
 use Rattle.special_function.proofs.normal_distribution.inverse_norm_cdfm_half_for_midrange_probabilities.Statement.{statement}
 use Rattle.special_function.proofs.normal_distribution.inverse_norm_cdfm_half_for_midrange_probabilities.Tie as tie
 
-square : uMax ⊗ uMax ≡ bits 0x3FBD_D402_0DA6_4FF1
+square : u_max ⊗ u_max ≡ bits 0x3FBD_D402_0DA6_4FF1
 unfolding mul of_bits
 square = refl
 
 returns : tie.Need-returns
-unfolding inverseNormCdfmHalfForMidrangeProbabilities
+unfolding inverse_norm_cdfm_half_for_midrange_probabilities
 returns c = cc square
 
 pub inverse-norm-cdfm-half-for-midrange-probabilities-spec : {M : Type 1} → statement M

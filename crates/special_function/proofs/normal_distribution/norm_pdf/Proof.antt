@@ -1,10 +1,10 @@
 -- `normal_distribution::norm_pdf` meets its contract: the operations are the definition's. Assumes nothing.
-use Rattle.special_function.specs.NormalDistribution.{normPdf}
+use Rattle.special_function.specs.NormalDistribution.{norm_pdf}
 use Rattle.special_function.proofs.normal_distribution.norm_pdf.Statement.{statement}
 use Rattle.special_function.proofs.normal_distribution.norm_pdf.Tie as tie
 
 returns : tie.Need-returns
-unfolding normPdf
+unfolding norm_pdf
 returns c = cc
 
 pub norm-pdf-spec : {M : Type 1} → statement M

@@ -9,14 +9,14 @@ use lib.ListN.{length, drop, get_or, drop_of_length-le}
 use lib.Seq.{drop-cons}
 use lib.Ieee.{Float, nan}
 use borrow.Author.Rules.{rules}
-use Rattle.arithmetic.specs.Basic.{mulAdd2Sel}
+use Rattle.arithmetic.specs.Basic.{mul_add2_sel}
 use Rattle.special_function.specs.Polynomial.{evaluate}
 use Rattle.special_function.proofs.polynomial.evaluate.Statement.{statement}
 use Rattle.special_function.proofs.polynomial.evaluate.Tie as tie
 
 -- one coefficient further
 step :
-    (l : List Float) (i : ℕ) (r v z : Float) → i < length l → r ≡ mulAdd2Sel v z (get_or l i nan)
+    (l : List Float) (i : ℕ) (r v z : Float) → i < length l → r ≡ mul_add2_sel v z (get_or l i nan)
     → evaluate r (drop (i + 1) l) z ≡ evaluate v (drop i l) z
 unfolding evaluate
 step l i r v z h e = rw (e, drop-cons l i nan h, add-one)

@@ -7,13 +7,13 @@ use lib.ListN.{length, get_or, take, drop}
 use lib.Seq.{take_all}
 use lib.Ieee.{Float, nan}
 use borrow.Author.Rules.{rules}
-use Rattle.arithmetic.specs.Operations.{plusZero}
+use Rattle.arithmetic.specs.Operations.{plus_zero}
 use Rattle.special_function.specs.Polynomial.{evaluate, nested}
-use Rattle.special_function.specs.Laws.Polynomial.{nested-chain}
+use Rattle.special_function.specs.Laws.Polynomial.{nested_chain}
 use Rattle.special_function.proofs.polynomial.nested.Statement.{statement}
 use Rattle.special_function.proofs.polynomial.nested.Tie as tie
 
-none : (z : Float) (cs : List Float) → length cs ≡ 0 → plusZero ≡ nested z cs
+none : (z : Float) (cs : List Float) → length cs ≡ 0 → plus_zero ≡ nested z cs
 unfolding nested
 none z [] h = refl
 none z (c ∷ cs) h = absurd (some h)
@@ -27,7 +27,7 @@ some z [] h = absurd (nothing h)
   where
     nothing : 0 < 0 → ⊥
     nothing h = omega arith
-some z (c ∷ cs) h = ap (λ (l : List Float). evaluate c l z) (take_all (suc (length cs) - 1) cs (omega arith)) ∙ sym (nested-chain z c cs)
+some z (c ∷ cs) h = ap (λ (l : List Float). evaluate c l z) (take_all (suc (length cs) - 1) cs (omega arith)) ∙ sym (nested_chain z c cs)
 
 returns : tie.Need-returns
 returns c = none _ _ c.if1.true

@@ -3,16 +3,16 @@ use mathlib.Core.Path.{◌≡◌, sym, ap, ◌∙◌}
 use mathlib.Core.Bool.{true}
 use lib.Ieee.{Float, div, ne}
 use Rattle.arithmetic.specs.Operations.{◌⊘◌}
-use Rattle.arithmetic.specs.Laws.Signs.{is-nan}
+use Rattle.arithmetic.specs.Laws.Signs.{is_nan_lem}
 use Rattle.special_function.proofs.polynomial.rational.Statement.{statement}
 use Rattle.special_function.proofs.polynomial.rational.Tie as tie
 
-nan-over : (x n d : Float) → ne x x ≡ true → x ≡ n → x ≡ n ⊘ d
+nan_over : (x n d : Float) → ne x x ≡ true → x ≡ n → x ≡ n ⊘ d
 unfolding div
-nan-over x n d h e = is-nan x h ∙ sym (ap (λ (z : Float). z ⊘ d) (sym e ∙ is-nan x h))
+nan_over x n d h e = is_nan_lem x h ∙ sym (ap (λ (z : Float). z ⊘ d) (sym e ∙ is_nan_lem x h))
 
 returns : tie.Need-returns
-returns c = nan-over _ _ _ c.if1.true c.before.nested.ensures
+returns c = nan_over _ _ _ c.if1.true c.before.nested.ensures
 
 returns-2 : tie.Need-returns-2
 returns-2 c = rw (c.nested2.ensures, c.before.before.nested.ensures)

@@ -4,24 +4,24 @@ use Prim.Native.Nat.{ℕ}
 use native.Mathlib.Omega.{arith}
 use lib.Ieee.{Float, mul, neg, of_bits, round}
 use Rattle.arithmetic.specs.Exp.{exp}
-use Rattle.arithmetic.specs.Laws.Choices.{all-passed}
-use Rattle.special_function.specs.Internal.PowerTable.{powerAt}
+use Rattle.arithmetic.specs.Laws.Choices.{all_passed}
+use Rattle.special_function.specs.Internal.PowerTable.{power_at}
 use Rattle.special_function.proofs.power_table.power_at.Statement.{statement}
 use Rattle.special_function.proofs.power_table.power_at.Tie as tie
 
-at : {j k : ℕ} {v : Float} → j ≡ k → v ≡ powerAt k → v ≡ powerAt j
-at e h = h ∙ ap powerAt (sym e)
+at : {j k : ℕ} {v : Float} → j ≡ k → v ≡ power_at k → v ≡ power_at j
+at e h = h ∙ ap power_at (sym e)
 
 last : tie.Need-returns-37
-unfolding powerAt exp mul neg of_bits round
+unfolding power_at exp mul neg of_bits round
 last c =
     let start = c.before in
-    let from-43 = all-passed 7 36 start.args.j start.requires.0 c.match.rest in
+    let from-43 = all_passed 7 36 start.args.j start.requires.0 c.match.rest in
     let is-43 : start.args.j ≡ 43 = omega (arith, from-43, start.requires.1) in
     at is-43 refl
 
 pub power-at-spec : {M : Type 1} → statement M
-unfolding powerAt exp mul neg of_bits round
+unfolding power_at exp mul neg of_bits round
 power-at-spec =
     tie.close
     (tie.spec

@@ -1,12 +1,12 @@
 -- `sheet::quotes_in` meets its contract: the tests that led to each return pick the definition's case. Assumes nothing.
-use Rattle.xdr_sheet.specs.Laws.Sheet.{size-short, size-many, size-whole, size-other}
+use Rattle.xdr_sheet.specs.Laws.Sheet.{size_short, size-many, size-whole, size-other}
 use borrow.Author.Rules.{rules}
 use native.Mathlib.Omega.{arith}
 use Rattle.xdr_sheet.proofs.sheet.quotes_in.Statement.{statement}
 use Rattle.xdr_sheet.proofs.sheet.quotes_in.Tie as tie
 
 returns : tie.Need-returns
-returns c = size-short _ c.if1.true
+returns c = size_short _ c.if1.true
 
 returns-2 : tie.Need-returns-2
 returns-2 c =

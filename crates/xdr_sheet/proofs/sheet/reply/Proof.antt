@@ -1,8 +1,8 @@
 -- `sheet::reply` meets its contract: the sheet's size and the index pick the case. Assumes nothing.
 use mathlib.Core.Path.{◌≡◌, sym, ap, ◌∙◌}
 use Rattle.xdr_sheet.specs.Sheet.{quotes, size, replied}
-use Rattle.xdr_sheet.specs.Replies.{viewSize}
-use Rattle.xdr_sheet.specs.Laws.Sheet.{quote-within, quote-there, quote-past, quote-none}
+use Rattle.xdr_sheet.specs.Replies.{view_size}
+use Rattle.xdr_sheet.specs.Laws.Sheet.{quote-within, quote-there, quote-past, quote_none}
 use borrow.Author.Rules.{rules}
 use Rattle.xdr_sheet.proofs.sheet.reply.Statement.{statement}
 use Rattle.xdr_sheet.proofs.sheet.reply.Tie as tie
@@ -15,7 +15,7 @@ abbrev entry : tie.After-quotes-in → tie.Start
 entry z = z.before.before
 
 accepted : (q : tie.After-count) → quotes q.count.given.0.0 ≡ size (entry (sized q)).args.sheet.now
-accepted q = sym (ap viewSize q.count.given.1) ∙ (sized q).quotes-in.ensures
+accepted q = sym (ap view_size q.count.given.1) ∙ (sized q).quotes-in.ensures
 
 quote-requires : tie.Need-quote-requires
 quote-requires c κs =
@@ -38,8 +38,8 @@ returns-3 c =
     let is-refused = c.before in
     let at_size = is-refused.before.before in
     let start = entry at_size in
-    quote-none start.args.sheet.now start.args.index _ _
-    (sym (ap viewSize is-refused.number.given.1) ∙ at_size.quotes-in.ensures)
+    quote_none start.args.sheet.now start.args.index _ _
+    (sym (ap view_size is-refused.number.given.1) ∙ at_size.quotes-in.ensures)
 
 pub reply-spec : {M : Type 1} → statement M
 reply-spec =

@@ -1,13 +1,13 @@
 -- `text::price_line` meets its contract: the record's number, then the fields of its price or its refusal. Assumes nothing.
 use mathlib.Core.Path.{◌∙◌}
-use Rattle.xdr_sheet.specs.Text.{priceLine}
+use Rattle.xdr_sheet.specs.Text.{price_line}
 use Rattle.xdr_sheet.proofs.Lines.{◌then◌, from_empty}
 use borrow.Author.Rules.{rules}
 use Rattle.xdr_sheet.proofs.text.price_line.Statement.{statement}
 use Rattle.xdr_sheet.proofs.text.price_line.Tie as tie
 
 returns : tie.Need-returns
-unfolding priceLine
+unfolding price_line
 returns c =
     let at-pattern = c.before in
     let is-price = at-pattern.before.before in
@@ -17,7 +17,7 @@ returns c =
     ∙ rw (at-number.number.ensures, is-price.reply.given.1, at-pattern.pattern.ensures)
 
 returns-2 : tie.Need-returns-2
-unfolding priceLine
+unfolding price_line
 returns-2 c =
     let is-refusal = c.before.before in
     let at-decimal = is-refusal.before.before in

@@ -1,12 +1,12 @@
 -- `text::refused_line` meets its contract: the refusal's number between its letter and the line's end. Assumes nothing.
-use Rattle.xdr_sheet.specs.Text.{refusedSheet}
+use Rattle.xdr_sheet.specs.Text.{refused_sheet}
 use Rattle.xdr_sheet.proofs.Lines.{◌then◌, from_empty}
 use borrow.Author.Rules.{rules}
 use Rattle.xdr_sheet.proofs.text.refused_line.Statement.{statement}
 use Rattle.xdr_sheet.proofs.text.refused_line.Tie as tie
 
 returns : tie.Need-returns
-unfolding refusedSheet
+unfolding refused_sheet
 returns c =
     let at-number = c.before.before in
     let at-letter = at-number.before in

@@ -1,5 +1,5 @@
 -- `text::reply_line` meets its contract: the quote's number, then the fields of its answer or its refusal. Assumes nothing.
-use Rattle.xdr_sheet.proofs.Lines.{answer-line, refusal-line}
+use Rattle.xdr_sheet.proofs.Lines.{answer_line, refusal_line}
 use borrow.Author.Rules.{rules}
 use Rattle.xdr_sheet.proofs.text.reply_line.Statement.{statement}
 use Rattle.xdr_sheet.proofs.text.reply_line.Tie as tie
@@ -11,7 +11,7 @@ returns c =
     let is-answer = at-total.before.before in
     let at-number = is-answer.before.before in
     let at-empty = at-number.before in
-    answer-line at-empty.before.args.number _ _ _ at-empty.empty.ensures.0 at-number.decimal.ensures.0 c.answer.ensures
+    answer_line at-empty.before.args.number _ _ _ at-empty.empty.ensures.0 at-number.decimal.ensures.0 c.answer.ensures
     is-answer.reply.given.1 at-total.pattern.ensures at-volatility.pattern2.ensures
 
 returns-2 : tie.Need-returns-2
@@ -19,7 +19,7 @@ returns-2 c =
     let is-refusal = c.before.before in
     let at-number = is-refusal.before.before in
     let at-empty = at-number.before in
-    refusal-line at-empty.before.args.number _ _ at-empty.empty.ensures.0 at-number.decimal.ensures.0 c.refusal.ensures
+    refusal_line at-empty.before.args.number _ _ at-empty.empty.ensures.0 at-number.decimal.ensures.0 c.refusal.ensures
     is-refusal.reply2.given.1
 
 pub reply-line-spec : {M : Type 1} → statement M

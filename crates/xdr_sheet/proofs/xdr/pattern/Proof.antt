@@ -1,5 +1,5 @@
 -- `xdr::pattern` meets its contract: what differs from itself is NaN; anything else has one pattern. Assumes nothing.
-use Rattle.arithmetic.specs.Laws.Signs.{has-bits}
+use Rattle.arithmetic.specs.Laws.Signs.{has_bits}
 use Rattle.xdr_sheet.proofs.Patterns.{nan_pattern}
 use borrow.Author.Rules.{rules}
 use Rattle.xdr_sheet.proofs.xdr.pattern.Statement.{statement}
@@ -9,7 +9,7 @@ returns : tie.Need-returns
 returns c = nan_pattern c.before.args.x c.if1.true
 
 float-to-bits-result : tie.Need-float-to-bits-result
-float-to-bits-result c = has-bits c.before.args.x c.if1.false
+float-to-bits-result c = has_bits c.before.args.x c.if1.false
 
 pub pattern-spec : {M : Type 1} → statement M
 pattern-spec = tie.close (tie.spec returns float-to-bits-result (λ c. search rules))

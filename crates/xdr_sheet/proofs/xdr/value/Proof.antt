@@ -5,7 +5,7 @@ use borrow.Author.Tests.{lt-ltb, le-ltb}
 use lib.Dec.{T}
 use lib.Ieee.{binary64, of_bits}
 use lib.Ieee.Bits.{nan_bits_is, nan_bits_above}
-use Rattle.xdr_sheet.proofs.Patterns.{nan_is, tested-nan}
+use Rattle.xdr_sheet.proofs.Patterns.{nan_is, tested_nan}
 use borrow.Author.Rules.{rules}
 use Rattle.xdr_sheet.proofs.xdr.value.Statement.{statement}
 use Rattle.xdr_sheet.proofs.xdr.value.Tie as tie
@@ -14,7 +14,7 @@ returns : tie.Need-returns
 returns c =
     let bits = c.before.args.bits in
     nan_is
-    ∙ sym (tested-nan (of_bits binary64 bits)
+    ∙ sym (tested_nan (of_bits binary64 bits)
     (sym (nan_bits_is binary64 bits) ∙ nan_bits_above binary64 bits ∙ lt-ltb _ _ c.if1.true))
 
 float-from-bits-result : tie.Need-float-from-bits-result

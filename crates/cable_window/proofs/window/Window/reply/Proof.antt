@@ -1,6 +1,6 @@
 -- Straight: each figure is the definition's. Assumes nothing.
 use borrow.Author.Rules.{rules}
-use Rattle.cable_window.proofs.Steps.{reply-read}
+use Rattle.cable_window.proofs.Steps.{reply_read}
 use Rattle.cable_window.proofs.window.Window.reply.Statement.{statement}
 use Rattle.cable_window.proofs.window.Window.reply.Tie as tie
 
@@ -11,7 +11,7 @@ returns c =
     let forward = strike.before.before in
     let price = forward.before.before in
     let side = price.before.before in
-    reply-read _ _ _ _ _ _ side.unsigned.ensures price.double.ensures forward.double2.ensures strike.double3.ensures
+    reply_read _ _ _ _ _ _ side.unsigned.ensures price.double.ensures forward.double2.ensures strike.double3.ensures
     time.double4.ensures c.implied-black-volatility-input.ensures
 
 pub reply-spec : {M : Type 1} → statement M

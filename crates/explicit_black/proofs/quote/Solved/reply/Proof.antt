@@ -1,6 +1,6 @@
 -- `quote::Solved::reply` meets its contract: the count is what was allowed without what is left. Assumes nothing.
 use borrow.Author.Rules.{rules}
-use Rattle.explicit_black.specs.Internal.Quote.{viewSolved}
+use Rattle.explicit_black.specs.Internal.Quote.{view_solved}
 use Rattle.explicit_black.proofs.Allowed.{answers, refuses}
 use Rattle.inverse_gaussian.specs.Laws.Counted.{seen}
 use Rattle.explicit_black.proofs.quote.Solved.reply.Statement.{statement}
@@ -21,12 +21,12 @@ returns : tie.Need-returns
 returns c =
     let at-volatility = c.before in
     let at_self = at-volatility.before.before in
-    rw c.left.ensures (λ d e. answers _ _ _ _ _ d (seen viewSolved e at_self.self.given.1) at-volatility.volatility.ensures)
+    rw c.left.ensures (λ d e. answers _ _ _ _ _ d (seen view_solved e at_self.self.given.1) at-volatility.volatility.ensures)
 
 returns-2 : tie.Need-returns-2
 returns-2 c =
     let at_self = c.before.before in
-    rw c.left2.ensures (λ d e. refuses _ _ _ _ _ d (seen viewSolved e at_self.self2.given.1))
+    rw c.left2.ensures (λ d e. refuses _ _ _ _ _ d (seen view_solved e at_self.self2.given.1))
 
 returns-3 : tie.Need-returns-3
 returns-3 c = absurd (rw c.enum_told.given.1 at c.before.before.requires)

@@ -1,14 +1,14 @@
 -- `bracket::Bracket::continue_at` meets its contract. Assumes nothing.
-use Rattle.inverse_gaussian.specs.Quantile.{continueAt}
+use Rattle.inverse_gaussian.specs.Quantile.{continue_at}
 use Rattle.inverse_gaussian.proofs.bracket.Bracket.continue_at.Statement.{statement}
 use Rattle.inverse_gaussian.proofs.bracket.Bracket.continue_at.Tie as tie
 
 returns : tie.Need-returns
-unfolding continueAt
+unfolding continue_at
 returns c = rw (c.before.if1.true, c.bracket-midpoint.ensures)
 
 returns-2 : tie.Need-returns-2
-unfolding continueAt
+unfolding continue_at
 returns-2 c = rw c.if1.false
 
 pub continue-at-spec : {M : Type 1} → statement M

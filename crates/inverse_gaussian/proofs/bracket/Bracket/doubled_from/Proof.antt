@@ -1,10 +1,10 @@
 -- `bracket::Bracket::doubled_from` meets its contract. Assumes nothing.
-use Rattle.inverse_gaussian.specs.Bracket.{doubledFrom}
+use Rattle.inverse_gaussian.specs.Bracket.{doubled_from}
 use Rattle.inverse_gaussian.proofs.bracket.Bracket.doubled_from.Statement.{statement}
 use Rattle.inverse_gaussian.proofs.bracket.Bracket.doubled_from.Tie as tie
 
 returns : tie.Need-returns
-unfolding doubledFrom
+unfolding doubled_from
 returns c = rw c.doubled.ensures
 
 pub doubled-from-spec : {M : Type 1} → statement M

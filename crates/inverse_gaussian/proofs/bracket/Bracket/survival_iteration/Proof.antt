@@ -1,15 +1,15 @@
 -- `bracket::Bracket::survival_iteration` meets its contract. Assumes nothing.
 use mathlib.Core.Path.{sym, ◌∙◌}
-use Rattle.inverse_gaussian.specs.Survival.{survivalIteration, survivalTightOr}
+use Rattle.inverse_gaussian.specs.Survival.{survival_iteration, survival_tight_or}
 use Rattle.inverse_gaussian.proofs.bracket.Bracket.survival_iteration.Statement.{statement}
 use Rattle.inverse_gaussian.proofs.bracket.Bracket.survival_iteration.Tie as tie
 
 returns : tie.Need-returns
-unfolding survivalIteration survivalTightOr
+unfolding survival_iteration survival_tight_or
 returns c = rw c.if1.true
 
 returns-2 : tie.Need-returns-2
-unfolding survivalIteration survivalTightOr
+unfolding survival_iteration survival_tight_or
 returns-2 c =
     let at-tight = c.before.before in
     let at-narrowed = at-tight.before in
@@ -21,7 +21,7 @@ returns-2 c =
     )
 
 returns-3 : tie.Need-returns-3
-unfolding survivalIteration survivalTightOr
+unfolding survival_iteration survival_tight_or
 returns-3 c =
     let at_test = c.before.before in
     let at-narrowed = at_test.before.before in

@@ -1,18 +1,18 @@
 -- `bracket::Bracket::survival_widened` meets its contract. Assumes nothing.
-use Rattle.inverse_gaussian.specs.Survival.{survivalWidened}
+use Rattle.inverse_gaussian.specs.Survival.{survival_widened}
 use Rattle.inverse_gaussian.proofs.bracket.Bracket.survival_widened.Statement.{statement}
 use Rattle.inverse_gaussian.proofs.bracket.Bracket.survival_widened.Tie as tie
 
 returns : tie.Need-returns
-unfolding survivalWidened
+unfolding survival_widened
 returns c = rw c.if1.true
 
 returns-2 : tie.Need-returns-2
-unfolding survivalWidened
+unfolding survival_widened
 returns-2 c = rw (c.before.before.if1.false, c.if2.true)
 
 returns-3 : tie.Need-returns-3
-unfolding survivalWidened
+unfolding survival_widened
 returns-3 c =
     let at-largest = c.before in
     rw (at-largest.before.before.if1.false, at-largest.if2.false, c.capped-from.ensures)

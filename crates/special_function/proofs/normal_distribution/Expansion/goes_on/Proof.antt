@@ -1,16 +1,16 @@
 -- `normal_distribution::Expansion::goes_on` meets its contract: both parts of the test, in the definition's order. Assumes nothing.
-use Rattle.special_function.specs.NormalDistribution.{goesOn}
+use Rattle.special_function.specs.NormalDistribution.{goes_on}
 use Rattle.special_function.proofs.normal_distribution.Expansion.goes_on.Statement.{statement}
 use Rattle.special_function.proofs.normal_distribution.Expansion.goes_on.Tie as tie
 
 returns : tie.Need-returns
-unfolding goesOn
+unfolding goes_on
 returns c =
     let after-abs = c.before in
     rw (after-abs.before.before.if1.true, after-abs.abs.ensures)
 
 returns-2 : tie.Need-returns-2
-unfolding goesOn
+unfolding goes_on
 returns-2 c = rw c.if1.false
 
 pub goes-on-spec : {M : Type 1} → statement M

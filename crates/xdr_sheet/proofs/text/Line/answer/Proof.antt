@@ -1,12 +1,12 @@
 -- `text::Line::answer` meets its contract: two patterns and the count, between the letter, spaces and the line's end. Assumes nothing.
-use Rattle.xdr_sheet.specs.Text.{answerFields}
+use Rattle.xdr_sheet.specs.Text.{answer_fields}
 use Rattle.xdr_sheet.proofs.Lines.{◌then◌}
 use borrow.Author.Rules.{rules}
 use Rattle.xdr_sheet.proofs.text.Line.answer.Statement.{statement}
 use Rattle.xdr_sheet.proofs.text.Line.answer.Tie as tie
 
 returns : tie.Need-returns
-unfolding answerFields
+unfolding answer_fields
 returns c =
     let at_count = c.before.before in
     let space-2 = at_count.before in

@@ -5,7 +5,7 @@ use borrow.Author.Rules.{rules}
 use lib.ListN.{length, take}
 use lib.Seq.{length-take-le}
 use Rattle.xdr_sheet.specs.Internal.Lines.{Extended}
-use Rattle.xdr_sheet.proofs.Lines.{same_line, next-byte, whole}
+use Rattle.xdr_sheet.proofs.Lines.{same_line, next_byte, whole}
 use Rattle.xdr_sheet.proofs.text.Line.bytes.Statement.{statement}
 use Rattle.xdr_sheet.proofs.text.Line.bytes.Tie as tie
 
@@ -28,7 +28,7 @@ loop-again c =
     let at_test = c.before.before in
     let at-loop = at_test.before in
     let s = at-loop.before.before.args.s.now in
-    (omega arith, next-byte _ _ _ s at-loop.loop.i (omega arith) at-loop.loop.invariant.1 c.byte.ensures)
+    (omega arith, next_byte _ _ _ s at-loop.loop.i (omega arith) at-loop.loop.invariant.1 c.byte.ensures)
 
 returns : tie.Need-returns invariant-loop decreases-loop
 returns c =

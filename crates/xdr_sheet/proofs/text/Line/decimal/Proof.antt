@@ -2,13 +2,13 @@
 use mathlib.Core.Path.{◌∙◌}
 use Prim.Native.Nat.{◌≤◌}
 use native.Mathlib.Omega.{arith}
-use Rattle.xdr_sheet.proofs.Lines.{same_text, decimal-is, places-le}
+use Rattle.xdr_sheet.proofs.Lines.{same_text, decimal_is, places_le}
 use borrow.Author.Rules.{rules}
 use Rattle.xdr_sheet.proofs.text.Line.decimal.Statement.{statement}
 use Rattle.xdr_sheet.proofs.text.Line.decimal.Tie as tie
 
 few : (c : tie.After-decimal) → c.decimal.result ≤ 20
-few c = places-le c.before.before.args.n c.decimal.result (search rules) c.decimal.ensures.1.0
+few c = places_le c.before.before.args.n c.decimal.result (search rules) c.decimal.ensures.1.0
 
 bytes-requires : tie.Need-bytes-requires
 bytes-requires c κs = omega (arith, few c.before)
@@ -18,7 +18,7 @@ returns c =
     let at-digits = c.before.before in
     let n = at-digits.before.before.args.n in
     let d = at-digits.decimal in (
-      same_text c.bytes.ensures (d.ensures.1.1 ∙ decimal-is n d.result (search rules) d.ensures.1.0),
+      same_text c.bytes.ensures (d.ensures.1.1 ∙ decimal_is n d.result (search rules) d.ensures.1.0),
       omega (arith, few at-digits, c.bytes.ensures.count),
     )
 

@@ -1,7 +1,7 @@
 -- `text::Line::hexadecimal` meets its contract: a u64 has 16 hexadecimal digits, zeros in front. Assumes nothing.
 use mathlib.Core.Path.{◌≡◌, ◌∙◌}
 use native.Mathlib.Omega.{arith}
-use Rattle.xdr_sheet.proofs.Lines.{same_text, hexadecimal-is, sixteen}
+use Rattle.xdr_sheet.proofs.Lines.{same_text, hexadecimal_is, sixteen}
 use borrow.Author.Rules.{rules}
 use Rattle.xdr_sheet.proofs.text.Line.hexadecimal.Statement.{statement}
 use Rattle.xdr_sheet.proofs.text.Line.hexadecimal.Tie as tie
@@ -17,7 +17,7 @@ returns c =
     let at-digits = c.before.before in
     let bits = at-digits.before.before.args.bits in
     let d = at-digits.hex in (
-      same_text c.bytes.ensures (d.ensures.1.1 ∙ hexadecimal-is bits d.result (search rules) d.ensures.1.0),
+      same_text c.bytes.ensures (d.ensures.1.1 ∙ hexadecimal_is bits d.result (search rules) d.ensures.1.0),
       omega (arith, all at-digits, c.bytes.ensures.count),
     )
 

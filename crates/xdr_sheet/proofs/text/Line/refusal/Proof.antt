@@ -1,12 +1,12 @@
 -- `text::Line::refusal` meets its contract: the refusal's number and the count, between the letter, a space and the line's end. Assumes nothing.
-use Rattle.xdr_sheet.specs.Text.{refusalFields}
+use Rattle.xdr_sheet.specs.Text.{refusal_fields}
 use Rattle.xdr_sheet.proofs.Lines.{◌then◌}
 use borrow.Author.Rules.{rules}
 use Rattle.xdr_sheet.proofs.text.Line.refusal.Statement.{statement}
 use Rattle.xdr_sheet.proofs.text.Line.refusal.Tie as tie
 
 returns : tie.Need-returns
-unfolding refusalFields
+unfolding refusal_fields
 returns c =
     let at_count = c.before.before in
     let at-space = at_count.before in

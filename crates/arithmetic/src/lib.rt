@@ -1,4 +1,6 @@
 // Layer one: the arithmetic of binary64 that no operator gives.
+#![tactic(auto)]
+
 pub mod basic;
 pub mod constants;
 pub mod exp;

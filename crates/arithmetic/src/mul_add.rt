@@ -34,7 +34,7 @@ const GUARD_FIELD: u64 = 3;
 const TIE: u64 = 2;
 
 // The sign, and the magnitude m * 2^j.
-#[derive(Drop)]
+#[derive(Clone, Copy)]
 pub struct Parts {
     pub negative: bool,
     pub m: u64,

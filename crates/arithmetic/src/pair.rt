@@ -16,7 +16,7 @@ pub(crate) const HALF_WORD: u64 = 32;
 const LOWER_HALF: u64 = 0xffff_ffff;
 
 // The number hi * 2^64 + lo.
-#[derive(Drop)]
+#[derive(Clone, Copy)]
 pub struct Pair {
     pub hi: u64,
     pub lo: u64,

@@ -1,4 +1,6 @@
 // The normalised Black price and its three formulas, after bs_option_price.rs.
+#![tactic(auto)]
+
 mod table;
 
 ghost use Rattle.std.specs.Prelude.{◌≡◌, ◌-◌, ◌<◌};

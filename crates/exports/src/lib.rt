@@ -1,4 +1,6 @@
 // The C interface: the layers' functions, the entries, sheets and the window, on numbers and lent bytes. include/quoter.h declares it.
+#![tactic(auto)]
+
 ghost use Rattle.std.specs.Prelude.{◌≡◌};
 ghost use Rattle.arithmetic.specs.Sqrt.{sqrt};
 ghost use Rattle.arithmetic.specs.MulAdd.{mul_add};

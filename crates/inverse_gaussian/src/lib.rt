@@ -1,4 +1,6 @@
 // Quantiles of the inverse Gaussian distribution, by searches that count their evaluations of its curves.
+#![tactic(auto)]
+
 pub mod bracket;
 pub mod counted;
 pub mod curves;

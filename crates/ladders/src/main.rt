@@ -4,6 +4,8 @@
 // for each place of the longest of the four lent slices: total volatility and volatility by their bits, or `nan`, count and
 // refusal number, or `-` where a slice is shorter. A length over 512, and input that ends inside a ladder, end the run, and so does a read or a
 // write that fails.
+#![tactic(auto)]
+
 mod text;
 
 use ladder::ladder::implied_black_volatility_ladder;

@@ -2,6 +2,8 @@
 // volatility, forward, strike and time, as XDR writes them. Each record gives a line: its number, from 1
 // on, and its price or its refusal. Input that ends inside a record ends the run there, and so does a read
 // or a write that fails.
+#![tactic(auto)]
+
 use xdr_sheet::price_record::{Numbered, RECORD_BYTES, RecordNumber, price_reply};
 use xdr_sheet::text::price_line;
 

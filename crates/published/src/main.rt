@@ -6,6 +6,8 @@
 // table 7.1, erf x; table 7.3, x exp(x^2) erfc x; table 26.2, -log10 Q(x). They were set
 // down from memory and have not been held beside a copy of the book; each agrees with mpmath at 60
 // digits. None is nearer than 0.0028 units of its last digit to where it would round to another.
+#![tactic(auto)]
+
 mod text;
 
 use arithmetic::ln::ln;

@@ -1,5 +1,7 @@
 // Reads a sheet of quotes from standard input and prints its answers. A read that fails ends the
 // run before the first line, and a write that fails ends it there.
+#![tactic(auto)]
+
 mod input;
 
 use input::read_sheet;

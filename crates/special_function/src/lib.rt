@@ -1,4 +1,6 @@
 // Layer two: error functions, the normal distribution and its inverse, polynomials.
+#![tactic(auto)]
+
 pub mod constants;
 pub mod error_function;
 pub mod normal_distribution;

@@ -2,6 +2,8 @@
 // function's number and three doubles, as XDR writes them. Each record gives a line: the 16 digits
 // of the result's bits, or `nan`; for the normalised entry a sheet's line without its number. A number
 // that names no function ends the run.
+#![tactic(auto)]
+
 mod text;
 
 use arithmetic::basic::{max, min, signum, trunc};

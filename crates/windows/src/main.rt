@@ -2,6 +2,8 @@
 // write its offset and its word, both unsigned. Each list starts from a window of zeros. Each write gives a line: what was handed
 // back, and the 16 words of the window after it in hexadecimal digits; then a line with `W` and the words that the list as a whole
 // leaves. A count over 512, and input that ends inside a list, end the run, and so does a read or a write that fails.
+#![tactic(auto)]
+
 use cable_window::window::{WINDOW_BYTES, Window, after_writes, written};
 use xdr_sheet::xdr::unsigned;
 

@@ -1,4 +1,6 @@
 // A sheet of quotes in XDR, and the text of its answers; the record of a price in XDR, and its line.
+#![tactic(auto)]
+
 pub mod price_record;
 pub mod printing;
 pub mod sheet;

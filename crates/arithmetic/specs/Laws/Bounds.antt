@@ -41,10 +41,10 @@ le_cross (fin false m e) (fin false n d) p q s t h =
 -- the magnitude is the same with either sign
 module _ (f : Format) (s : Bool) (a c : ℕ) where
   round_num : num (round f s a c) ≡ num (round f false a c)
-  round_num = elim s [ false ↦ refl | true ↦ ap num (round_neg f false a c) ∙ neg_num (round f false a c) ]
+  round_num = elim s as (λ v. num (round f v a c) ≡ num (round f false a c)) [ false ↦ refl | true ↦ ap num (round_neg f false a c) ∙ neg_num (round f false a c) ]
 
   round_den : den (round f s a c) ≡ den (round f false a c)
-  round_den = elim s [ false ↦ refl | true ↦ ap den (round_neg f false a c) ∙ neg_den (round f false a c) ]
+  round_den = elim s as (λ v. den (round f v a c) ≡ den (round f false a c)) [ false ↦ refl | true ↦ ap den (round_neg f false a c) ∙ neg_den (round f false a c) ]
 
 -- a / c and b / d do not overflow
 module _ (f : Format) (a c b d : ℕ) (C : 0 < c) (D : 0 < d) (A : grid f a c < overflow f) (B : grid f b d < overflow f) where

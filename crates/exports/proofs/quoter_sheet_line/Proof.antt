@@ -1,6 +1,6 @@
 -- `quoter_sheet_line` meets its contract: by whether the line had room. Assumes nothing.
 use mathlib.Core.Path.{sym, ◌∙◌}
-use Rattle.exports.proofs.SheetLine.{line-put, line-not-put}
+use Rattle.exports.proofs.SheetLine.{line_put, line_not_put}
 use borrow.Author.Rules.{rules}
 use Rattle.exports.proofs.quoter_sheet_line.Statement.{statement}
 use Rattle.exports.proofs.quoter_sheet_line.Tie as tie
@@ -27,7 +27,7 @@ returns c =
     let w = at_place has_room.before.before in
     let n = at-line w in
     let a = (entry n).args in
-    line-put a.count.now _ a.text.now n.next-line.ensures _ _ _
+    line_put a.count.now _ a.text.now n.next-line.ensures _ _ _
     (sym has_room.bytes.given.1 ∙ w.place.ensures.0) at-tally.tally-after.ensures w.place.ensures.1
 
 returns-2 : tie.Need-returns-2
@@ -35,7 +35,7 @@ returns-2 c =
     let w = at_place c.before.before in
     let n = at-line w in
     let a = (entry n).args in
-    line-not-put a.count.now _ a.text.now n.next-line.ensures _
+    line_not_put a.count.now _ a.text.now n.next-line.ensures _
     (sym c.enum_told.given.1 ∙ w.place.ensures.0) w.place.ensures.1
 
 pub quoter-sheet-line-spec : {M : Type 1} → statement M

@@ -5,7 +5,7 @@ use native.Mathlib.Omega.{arith}
 use lib.ListN.{length}
 use lib.Seq.{length-take-le}
 use Rattle.xdr_sheet.specs.Printing.{left}
-use Rattle.xdr_sheet.specs.Laws.Printing.{fill-within, fill-falls}
+use Rattle.xdr_sheet.specs.Laws.Printing.{fill_within, fill_falls}
 use borrow.Author.Rules.{rules}
 use Rattle.sheet.proofs.print.Statement.{statement}
 use Rattle.sheet.proofs.print.Tie as tie
@@ -25,7 +25,7 @@ head f = (at-tally f).before.before
 
 -- what was filled is within the buffer
 within : (f : tie.After-fill invariant-loop decreases-loop) → f.fill.result.count ≤ length f.fill.new.1.1.0
-within f = fill-within _ _ (head f).loop.out f.fill.result _ f.fill.ensures f.fill.auto.1.1.0
+within f = fill_within _ _ (head f).loop.out f.fill.result _ f.fill.ensures f.fill.auto.1.1.0
 
 array-share-prefix-out : tie.Need-array-share-prefix-out invariant-loop decreases-loop
 array-share-prefix-out c = within c.before
@@ -39,7 +39,7 @@ loop-less : tie.Need-loop-smaller invariant-loop decreases-loop
 loop-less c =
     let lent = c.before.before in
     let f = lent.before.before in
-    fill-falls _ _ (head f).loop.out f.fill.result _ f.fill.ensures (at-tally f).enum_told.given.1 (omega arith)
+    fill_falls _ _ (head f).loop.out f.fill.result _ f.fill.ensures (at-tally f).enum_told.given.1 (omega arith)
 
 pub print-spec : {M : Type 1} → statement M
 print-spec =

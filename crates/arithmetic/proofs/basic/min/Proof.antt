@@ -2,7 +2,7 @@
 use Rattle.std.proofs.Common.{◌≡◌, cond}
 use Rattle.arithmetic.specs.Basic.{min}
 use Rattle.arithmetic.specs.Laws.Signs.{has_bits}
-use Rattle.arithmetic.proofs.MaxMin.{first-nan, second-nan, by_first}
+use Rattle.arithmetic.proofs.MaxMin.{first_nan, second_nan, by_first}
 use Rattle.arithmetic.proofs.basic.min.Statement.{statement}
 use Rattle.arithmetic.proofs.basic.min.Tie as tie
 
@@ -18,8 +18,8 @@ pub min-spec : {M : Type 1} → statement M
 unfolding min
 min-spec =
     tie.close
-    (tie.spec (λ c. let a = c.before.args in first-nan a.x a.y a.y a.x c.if1.true)
-    (λ c. let a = c.before.before.args in second-nan a.x a.y a.y a.x c.before.if1.false c.if2.true)
+    (tie.spec (λ c. let a = c.before.args in first_nan a.x a.y a.y a.x c.if1.true)
+    (λ c. let a = c.before.before.args in second_nan a.x a.y a.y a.x c.before.if1.false c.if2.true)
     (λ c κs. has_bits _ c.before.if1.false)
     (λ c. rw c.if3.true at (by-choice c.before))
     (λ c. rw c.if3.false at (by-choice c.before)))

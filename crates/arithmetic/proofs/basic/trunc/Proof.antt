@@ -3,7 +3,7 @@ use Rattle.std.proofs.Common.{not, T, rules}
 use denote.Floats.{passes}
 use lib.Ieee.{binary64, fits, is_nan, to_bits}
 use Rattle.arithmetic.specs.Laws.Signs.{has_bits}
-use Rattle.arithmetic.proofs.Trunc.{trunc_of_nan, trunc-zero, zero_no_nan, trunc-cleared, cleared-no-nan, trunc-whole}
+use Rattle.arithmetic.proofs.Trunc.{trunc_of_nan, trunc_zero, zero_no_nan, trunc_cleared, cleared_no_nan, trunc_whole}
 use Rattle.arithmetic.proofs.basic.trunc.Statement.{statement}
 use Rattle.arithmetic.proofs.basic.trunc.Tie as tie
 
@@ -26,27 +26,27 @@ returns-2 : tie.Need-returns-2
 returns-2 c =
     let at-number = c.before in
     let start = at-number.before in
-    trunc-zero start.args.x (held start) (number at-number) c.if2.true
+    trunc_zero start.args.x (held start) (number at-number) c.if2.true
 
 float-from-bits-result-2 : tie.Need-float-from-bits-result-2
 float-from-bits-result-2 c =
     let at_one = c.before in
     let at-number = at_one.before in
     let start = at-number.before in
-    cleared-no-nan start.args.x (held start) (number at-number) at_one.if2.false c.if3.true
+    cleared_no_nan start.args.x (held start) (number at-number) at_one.if2.false c.if3.true
 
 returns-3 : tie.Need-returns-3
 returns-3 c =
     let at_one = c.before in
     let at-number = at_one.before in
     let start = at-number.before in
-    trunc-cleared start.args.x (held start) (number at-number) at_one.if2.false c.if3.true
+    trunc_cleared start.args.x (held start) (number at-number) at_one.if2.false c.if3.true
 
 returns-4 : tie.Need-returns-4
 returns-4 c =
     let at-number = c.before.before in
     let start = at-number.before in
-    trunc-whole start.args.x (held start) (number at-number) c.if3.false
+    trunc_whole start.args.x (held start) (number at-number) c.if3.false
 
 pub trunc-spec : {M : Type 1} → statement M
 trunc-spec =

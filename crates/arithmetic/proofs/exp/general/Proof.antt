@@ -8,8 +8,8 @@ use Rattle.arithmetic.specs.Laws.Numbers.{false_not}
 use Rattle.arithmetic.specs.Laws.Compare.{finite_no_nan, is_no_nan}
 use Rattle.arithmetic.specs.Laws.Patterns.{bits_no_nan}
 use Rattle.arithmetic.specs.Laws.Signs.{has_bits, sign_bit}
-use Rattle.arithmetic.proofs.ExpGeneral.{Bounded, bounded, most, most_le, whole_part_le, biased_exponent_lt, exp_of_nan, exp-over}
-use Rattle.arithmetic.proofs.ExpGeneral.{exp-under, exp-scaled}
+use Rattle.arithmetic.proofs.ExpGeneral.{Bounded, bounded, most, most_le, whole_part_le, biased_exponent_lt, exp_of_nan, exp_over}
+use Rattle.arithmetic.proofs.ExpGeneral.{exp_under, exp_scaled}
 use Rattle.arithmetic.proofs.exp.general.Statement.{statement}
 use Rattle.arithmetic.proofs.exp.general.Tie as tie
 
@@ -51,13 +51,13 @@ returns : tie.Need-returns
 returns c = exp_of_nan c.before.args.x c.if1.true
 
 returns-2 : tie.Need-returns-2
-returns-2 c = exp-over c.before.before.args.x (number c.before) c.if2.true
+returns-2 c = exp_over c.before.before.args.x (number c.before) c.if2.true
 
 returns-3 : tie.Need-returns-3
 returns-3 c =
     let not_over = c.before in
     let is_number = not_over.before in
-    exp-under is_number.before.args.x (number is_number) not_over.if2.false c.if3.true
+    exp_under is_number.before.args.x (number is_number) not_over.if2.false c.if3.true
 
 float-to-bits-negative : tie.Need-float-to-bits-negative
 float-to-bits-negative c = has_bits (arg c) (at-number c).if1.false
@@ -87,7 +87,7 @@ returns-4 c =
     let at-half = at_n.before in
     let between = at-half.before in
     c.scale-b.ensures
-    ∙ exp-scaled (arg between) (number (at-number between)) between.before.if2.false between.if3.false
+    ∙ exp_scaled (arg between) (number (at-number between)) between.before.if2.false between.if3.false
     (negative between) at-half.half-away.result at_n.whole_part.result (sign between) at-half.half-away.ensures at_n.whole_part.ensures
     at-reduced.reduced.result at-exponent.biased-exponent.result
     (at-reduced.reduced.ensures ∙ ap (reduced (arg between)) at-signed.signed-integer.ensures) at-exponent.biased-exponent.ensures

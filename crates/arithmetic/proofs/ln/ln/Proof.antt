@@ -6,7 +6,7 @@ use Rattle.arithmetic.specs.Laws.Patterns.{bits_no_nan}
 use Rattle.arithmetic.specs.Laws.Logarithm.{positive_bits}
 use Rattle.arithmetic.proofs.ExpFast.{both_true}
 use Rattle.arithmetic.proofs.LnPaths.{NormalParts, SubnormalParts, positive_no_nan, normal_parts, subnormal_parts}
-use Rattle.arithmetic.proofs.LnPaths.{ln-near-one, ln_parts, ln_infinity, ln_zero, ln_below}
+use Rattle.arithmetic.proofs.LnPaths.{ln_near_one, ln_parts, ln_infinity, ln_zero, ln_below}
 use Rattle.arithmetic.proofs.ln.ln.Statement.{statement}
 use Rattle.arithmetic.proofs.ln.ln.Tie as tie
 
@@ -29,7 +29,7 @@ returns c =
     let normal = near.before in
     let start = normal.before.before in
     let (from_least_lem, below-twice) = both_true _ _ near.if3.true in
-    ln-near-one start.args.x (held start) (leb-true _ _ from_least_lem) (ltb-true _ _ below-twice) _ (parts normal) c.series.ensures
+    ln_near_one start.args.x (held start) (leb-true _ _ from_least_lem) (ltb-true _ _ below-twice) _ (parts normal) c.series.ensures
 
 returns-2 : tie.Need-returns-2
 returns-2 c = let normal = c.before.before in ln_parts _ _ _ (parts normal).0 (parts normal).1 c.of-pattern.ensures

@@ -1,8 +1,8 @@
--- `ln::plus_ln_1p` meets its contract: of a u near 0 by `plus-ln1p`. Assumes nothing.
+-- `ln::plus_ln_1p` meets its contract: of a u near 0 by `plus_ln1p`. Assumes nothing.
 use Rattle.std.proofs.Common.{ap}
 use denote.Floats.{passes}
 use Rattle.arithmetic.specs.Operations.{◌⊕◌}
-use Rattle.arithmetic.proofs.LnBetween.{near, plus-ln1p}
+use Rattle.arithmetic.proofs.LnBetween.{near, plus_ln1p}
 use Rattle.arithmetic.proofs.ExpFast.{both_true}
 use Rattle.arithmetic.proofs.ln.plus_ln_1p.Statement.{statement}
 use Rattle.arithmetic.proofs.ln.plus_ln_1p.Tie as tie
@@ -14,7 +14,7 @@ returns c =
     let u = start.args.u in
     let (below-limit, above-limit) = both_true _ _ at-near.if1.true in
     let (equal, below_zero) = both_true _ _ c.if2.true in
-    plus-ln1p u (passes _ start.well-formed.1.0.1) (near u below-limit above-limit) start.args.y equal below_zero
+    plus_ln1p u (passes _ start.well-formed.1.0.1) (near u below-limit above-limit) start.args.y equal below_zero
 
 returns-2 : tie.Need-returns-2
 returns-2 c = ap (◌⊕◌ c.before.before.args.y) c.ln-1p.ensures

@@ -7,8 +7,8 @@ use lib.Ieee.{binary64, fits, to_bits}
 use Rattle.arithmetic.specs.Laws.Numbers.{false_not}
 use Rattle.arithmetic.specs.Laws.Compare.{finite_no_nan}
 use Rattle.arithmetic.specs.Internal.Exponent.{InRange}
-use Rattle.arithmetic.proofs.Exponents.{written, sum-asks, sum-gives}
-use Rattle.arithmetic.proofs.MulAddDecode.{decoded-subnormal, field-exponent, decoded-normal}
+use Rattle.arithmetic.proofs.Exponents.{written, sum_asks, sum_gives}
+use Rattle.arithmetic.proofs.MulAddDecode.{decoded_subnormal, field_exponent, decoded_normal}
 use Rattle.arithmetic.proofs.mul_add.decode.Statement.{statement}
 use Rattle.arithmetic.proofs.mul_add.decode.Tie as tie
 
@@ -36,21 +36,21 @@ offset = record { least = le_z_yes tt; most = le_z_yes tt }
 sum-requires : tie.Need-sum-requires
 sum-requires c κs =
     let start = c.before.before in
-    let exponent = field-exponent start.args.x (in-format start) start.requires (not_zero c) in
-    sum-asks _ _ c.before.field.ensures.1 offset (rw (field_is c.before) exponent.in-range)
+    let exponent = field_exponent start.args.x (in-format start) start.requires (not_zero c) in
+    sum_asks _ _ c.before.field.ensures.1 offset (rw (field_is c.before) exponent.in-range)
 
 returns : tie.Need-returns
 returns c =
     let start = c.before.before in
-    decoded-subnormal start.args.x (in-format start) start.requires
+    decoded_subnormal start.args.x (in-format start) start.requires
     (sym (ap (of_z w16) (field_is c.before)) ∙ c.if1.true) _ (written tt tt tt tt) refl
 
 returns-2 : tie.Need-returns-2
 returns-2 c =
     let at_field = c.before.before in
     let start = at_field.before in
-    let is = sum-gives _ _ at_field.field.ensures.1 offset _ c.sum.ensures ∙ ap (λ (z : ℤ). z +ℤ negsuc 1074) (field_is at_field) in
-    rw is (decoded-normal start.args.x (in-format start) start.requires (not_zero c.before))
+    let is = sum_gives _ _ at_field.field.ensures.1 offset _ c.sum.ensures ∙ ap (λ (z : ℤ). z +ℤ negsuc 1074) (field_is at_field) in
+    rw is (decoded_normal start.args.x (in-format start) start.requires (not_zero c.before))
 
 pub decode-spec : {M : Type 1} → statement M
 decode-spec = tie.close (tie.spec float-to-bits-bits (λ c κs. search rules) add-t8 sum-requires returns returns-2)

@@ -19,8 +19,8 @@ x-finite c = sym c.before.is-finite.ensures ∙ c.if1.true
 a-finite : (c : tie.Then2) → let at_x = c.before.before in finite at_x.before.before.args.a ≡ true
 a-finite c = sym c.before.is-finite2.ensures ∙ c.if2.true
 
-b-finite : (c : tie.Then3) → let at_a = c.before.before in let at_x = at_a.before.before in finite at_x.before.before.args.b ≡ true
-b-finite c = sym c.before.is-finite3.ensures ∙ c.if3.true
+b_finite : (c : tie.Then3) → let at_a = c.before.before in let at_x = at_a.before.before in finite at_x.before.before.args.b ≡ true
+b_finite c = sym c.before.is-finite3.ensures ∙ c.if3.true
 
 decode-requires : tie.Need-decode-requires
 decode-requires c κs = let at_a = c.before.before in passes _ (x-finite at_a.before.before)
@@ -29,14 +29,14 @@ decode-requires-2 : tie.Need-decode-requires-2
 decode-requires-2 c κs = let at_b = c.before in passes _ (a-finite at_b.before.before)
 
 decode-requires-3 : tie.Need-decode-requires-3
-decode-requires-3 c κs = passes _ (b-finite c.before.before)
+decode-requires-3 c κs = passes _ (b_finite c.before.before)
 
 -- the exponents of the product and of the addend are in range
-product-in-range : (c : tie.After-product-exponent) → InRange c.product-exponent.result
-product-in-range c = c.product-exponent.ensures.exponent.in-range
+product_in_range : (c : tie.After-product-exponent) → InRange c.product-exponent.result
+product_in_range c = c.product-exponent.ensures.exponent.in-range
 
-addend-in-range : (c : tie.After-decode3) → InRange c.decode3.result.j
-addend-in-range c = c.decode3.ensures.exponent.in-range
+addend_in_range : (c : tie.After-decode3) → InRange c.decode3.result.j
+addend_in_range c = c.decode3.ensures.exponent.in-range
 
 align-requires : tie.Need-align-requires
 align-requires c κs =
@@ -45,7 +45,7 @@ align-requires c κs =
     let of-b = at-product.before in
     let of-a = of-b.before in
     let of-x = of-a.before in
-    rw (held_is _ (product-in-range at-exponent), held_is _ (addend-in-range of-b))
+    rw (held_is _ (product_in_range at-exponent), held_is _ (addend_in_range of-b))
     (operands of-x.decode.result of-a.decode2.result of-b.decode3.result at-product.product.result at-exponent.product-exponent.result
     of-x.decode.ensures of-a.decode2.ensures of-b.decode3.ensures at-product.product.ensures at-exponent.product-exponent.ensures)
 
@@ -59,7 +59,7 @@ aligned c =
     let at-product = at-exponent.before in
     let of-b = at-product.before in
     of_held (λ (i j : ℤ). Aligned (val at-product.product.result) i of-b.decode3.result.m j c.align.result) _ _
-    (product-in-range at-exponent) (addend-in-range of-b) c.align.ensures
+    (product_in_range at-exponent) (addend_in_range of-b) c.align.ensures
 
 returns : tie.Need-returns
 returns c =

@@ -4,7 +4,7 @@ use lib.Ieee.{binary64, units}
 use lib.Ieee.Nearest.{closest}
 use Rattle.arithmetic.specs.Internal.Exponent.{above}
 use Rattle.arithmetic.specs.Internal.MulAdd.{KeptExponent}
-use Rattle.arithmetic.proofs.Exponents.{written, counted, counted_most, distance-asks, distance-gives}
+use Rattle.arithmetic.proofs.Exponents.{written, counted, counted_most, distance_asks, distance_gives}
 use Rattle.arithmetic.proofs.MulAddPack.{Packed, packed}
 use Rattle.arithmetic.proofs.mul_add.pack.Statement.{statement}
 use Rattle.arithmetic.proofs.mul_add.pack.Tie as tie
@@ -16,7 +16,7 @@ distance-requires : tie.Need-distance-requires
 distance-requires c κs =
     let k = c.args.k in
     let e = c.requires.1.0 in
-    distance-asks 1074 (above 1074 k) 0 k (negsuc 1073) e.in-range least.in-range (counted e) refl zero-le
+    distance_asks 1074 (above 1074 k) 0 k (negsuc 1073) e.in-range least.in-range (counted e) refl zero-le
     (le_trans (counted_most k e) (lit≤ tt))
 
 -- the distance from the least exponent is the count from there on
@@ -25,7 +25,7 @@ distance_is c =
     let k = c.before.args.k in
     let e = c.before.requires.1.0 in
     sym (add-zero c.distance.result)
-    ∙ distance-gives 1074 (above 1074 k) 0 k (negsuc 1073) e.in-range least.in-range (counted e) refl zero-le _ c.distance.ensures.0
+    ∙ distance_gives 1074 (above 1074 k) 0 k (negsuc 1073) e.in-range least.in-range (counted e) refl zero-le _ c.distance.ensures.0
 
 bits : (c : tie.After-round-guarded) → Packed c.before.before.args.m c.before.distance.result c.round-guarded.result
 bits c =

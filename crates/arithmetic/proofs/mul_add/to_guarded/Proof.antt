@@ -5,8 +5,8 @@ use Rattle.arithmetic.specs.Internal.Pair.{val}
 use Rattle.arithmetic.specs.Internal.Exponent.{InRange, above}
 use Rattle.arithmetic.specs.Internal.MulAdd.{LastDigit, IsGuarded}
 use Rattle.arithmetic.proofs.Pairs.{val_size}
-use Rattle.arithmetic.proofs.Exponents.{written, held, held_is, moved-asks, moved-gives}
-use Rattle.arithmetic.proofs.MulAddGuarded.{guarded_zero, end-in-range, last-subnormal, last-normal}
+use Rattle.arithmetic.proofs.Exponents.{written, held, held_is, moved_asks, moved_gives}
+use Rattle.arithmetic.proofs.MulAddGuarded.{guarded_zero, end_in_range, last_subnormal, last_normal}
 use Rattle.arithmetic.proofs.mul_add.to_guarded.Statement.{statement}
 use Rattle.arithmetic.proofs.mul_add.to_guarded.Tie as tie
 
@@ -20,15 +20,15 @@ end c = let at-digits = c.before.before in at-digits.before.args.e +ℤ pos at-d
 end_is : (c : tie.After-raised) → held c.raised.result ≡ end c
 end_is c =
     let start = c.before.before.before in
-    moved-gives ◌+ℤ◌ start.args.e start.requires.in-range _ _ c.raised.ensures
+    moved_gives ◌+ℤ◌ start.args.e start.requires.in-range _ _ c.raised.ensures
 
 raised-requires : tie.Need-raised-requires
 raised-requires c κs =
     let at-digits = c.before in
     let start = at-digits.before in
     let digits = at-digits.digits.ensures in
-    moved-asks ◌+ℤ◌ start.args.e start.requires.in-range _ (le_trans (le_of_eq digits) (le_trans (few start) (lit≤ tt)))
-    (end-in-range _ start.args.e start.requires _ digits (few start))
+    moved_asks ◌+ℤ◌ start.args.e start.requires.in-range _ (le_trans (le_of_eq digits) (le_trans (few start) (lit≤ tt)))
+    (end_in_range _ start.args.e start.requires _ digits (few start))
 
 -- the exponent of the last digit that is kept
 last : (c : tie.Then2)
@@ -39,19 +39,19 @@ last c =
     let at_some = c.before.before in
     let at-digits = at_some.before in
     let start = at-digits.before in
-    last-normal _ start.args.e start.requires _ at-digits.digits.ensures (few start) at_some.if1.false _ (end_is c.before) c.if2.true
+    last_normal _ start.args.e start.requires _ at-digits.digits.ensures (few start) at_some.if1.false _ (end_is c.before) c.if2.true
 
 lowered-requires : tie.Need-lowered-requires
 lowered-requires c κs =
     let at-raised = c.before in
     let is = sym (end_is at-raised) ∙ held_is _ at-raised.raised.ensures.1 in
-    moved-asks ◌-ℤ◌ _ at-raised.raised.ensures.1 53 (lit≤ tt) (subst (λ (z : ℤ). InRange (z -ℤ pos 53)) is (last c).kept.in-range)
+    moved_asks ◌-ℤ◌ _ at-raised.raised.ensures.1 53 (lit≤ tt) (subst (λ (z : ℤ). InRange (z -ℤ pos 53)) is (last c).kept.in-range)
 
 last-is : (c : tie.After-lowered) → held c.lowered.result ≡ end c.before.before -ℤ pos 53
 last-is c =
     let at-raised = c.before.before in
     let r = at-raised.raised.ensures.1 in
-    moved-gives ◌-ℤ◌ _ r 53 _ c.lowered.ensures ∙ ap (λ (z : ℤ). z -ℤ pos 53) (sym (held_is _ r) ∙ end_is at-raised)
+    moved_gives ◌-ℤ◌ _ r 53 _ c.lowered.ensures ∙ ap (λ (z : ℤ). z -ℤ pos 53) (sym (held_is _ r) ∙ end_is at-raised)
 
 to-guarded-above-requires : tie.Need-to-guarded-above-requires
 to-guarded-above-requires c κs =
@@ -65,7 +65,7 @@ to-guarded-above-requires-2 c κs =
     let at-digits = at_some.before in
     let start = at-digits.before in
     rw (held_is start.args.e start.requires.in-range)
-    (last-subnormal _ start.args.e start.requires _ at-digits.digits.ensures (few start) at_some.if1.false _ (end_is c.before) c.if2.false
+    (last_subnormal _ start.args.e start.requires _ at-digits.digits.ensures (few start) at_some.if1.false _ (end_is c.before) c.if2.false
     _ (written tt tt tt tt) refl)
 
 returns : tie.Need-returns

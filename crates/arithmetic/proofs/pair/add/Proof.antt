@@ -1,6 +1,6 @@
 -- `pair::add` meets its contract: a law of `Pairs` with a carry, and one without. Assumes nothing.
 use Rattle.std.proofs.Common.{◌^◌, ◌<◌, arith, rules}
-use Rattle.arithmetic.proofs.Pairs.{pair-carry, pair-no-carry}
+use Rattle.arithmetic.proofs.Pairs.{pair_carry, pair_no_carry}
 use Rattle.arithmetic.proofs.pair.add.Statement.{statement}
 use Rattle.arithmetic.proofs.pair.add.Tie as tie
 
@@ -16,7 +16,7 @@ returns c =
     let at-hi = at-carry.before.before in
     let at-lo = at-hi.before in
     let start = at-lo.before in
-    pair-carry start.args.a start.args.b (al start) (bl start) start.requires
+    pair_carry start.args.a start.args.b (al start) (bl start) start.requires
     at-lo.wrapping-add-u64.ensures at-hi.wrapping-add-u642.ensures c.wrapping-add-u643.ensures at-carry.if1.true
 
 returns-2 : tie.Need-returns-2
@@ -24,7 +24,7 @@ returns-2 c =
     let at-hi = c.before.before in
     let at-lo = at-hi.before in
     let start = at-lo.before in
-    pair-no-carry start.args.a start.args.b (al start) (bl start) start.requires
+    pair_no_carry start.args.a start.args.b (al start) (bl start) start.requires
     at-lo.wrapping-add-u64.ensures at-hi.wrapping-add-u642.ensures c.if1.false
 
 pub add_spec : {M : Type 1} → statement M

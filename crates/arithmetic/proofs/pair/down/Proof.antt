@@ -1,7 +1,7 @@
 -- `pair::down` meets its contract: a law of `Pairs` for each range of the shift. Assumes nothing.
 use Rattle.std.proofs.Common.{◌^◌, ◌<◌, arith, rules}
 use Rattle.arithmetic.specs.Internal.Pair.{val}
-use Rattle.arithmetic.proofs.Pairs.{val_lt, shift_down_none, shift-down-fits, shift-down, shift-down-far, none_left}
+use Rattle.arithmetic.proofs.Pairs.{val_lt, shift_down_none, shift_down_fits, shift_down, shift_down_far, none_left}
 use Rattle.arithmetic.proofs.pair.down.Statement.{statement}
 use Rattle.arithmetic.proofs.pair.down.Tie as tie
 
@@ -13,7 +13,7 @@ add-t11 c =
     let at-lo = c.before.before in
     let at-short = at-lo.before in
     let start = at-short.before.before in
-    record { fits = shift-down-fits start.args.a start.args.d (al start) at-short.if2.true }
+    record { fits = shift_down_fits start.args.a start.args.d (al start) at-short.if2.true }
 
 returns : tie.Need-returns
 returns c = let a = c.before.args in shift_down_none (val a.a) a.d c.if1.true
@@ -23,13 +23,13 @@ returns-2 c =
     let at-lo = c.before.before in
     let at-short = at-lo.before in
     let start = at-short.before.before in
-    shift-down start.args.a start.args.d (al start) at-short.if2.true
+    shift_down start.args.a start.args.d (al start) at-short.if2.true
 
 returns-3 : tie.Need-returns-3
 returns-3 c =
     let at-far = c.before.before in
     let start = at-far.before.before in
-    shift-down-far start.args.a start.args.d (al start) at-far.if2.false
+    shift_down_far start.args.a start.args.d (al start) at-far.if2.false
 
 returns-4 : tie.Need-returns-4
 returns-4 c =

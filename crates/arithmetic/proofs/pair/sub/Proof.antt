@@ -1,6 +1,6 @@
 -- `pair::sub` meets its contract: a law of `Pairs` with a borrow, and one without. Assumes nothing.
 use Rattle.std.proofs.Common.{◌^◌, ◌<◌, arith, rules}
-use Rattle.arithmetic.proofs.Pairs.{pair-borrow, pair-no-borrow}
+use Rattle.arithmetic.proofs.Pairs.{pair_borrow, pair_no_borrow}
 use Rattle.arithmetic.proofs.pair.sub.Statement.{statement}
 use Rattle.arithmetic.proofs.pair.sub.Tie as tie
 
@@ -31,7 +31,7 @@ returns c =
     let at-hi = at_test.before.before in
     let at-lo = at-hi.before in
     let start = at-lo.before in
-    pair-borrow start.args.a start.args.b (al start) (bl start) (ah start) (bh start) start.requires (lo at-lo) (hi at-hi)
+    pair_borrow start.args.a start.args.b (al start) (bl start) (ah start) (bh start) start.requires (lo at-lo) (hi at-hi)
     at-lo.wrapping-sub-u64.ensures at-hi.wrapping-sub-u642.ensures (top c) c.wrapping-sub-u643.ensures c.before.if1.true
 
 returns-2 : tie.Need-returns-2
@@ -40,7 +40,7 @@ returns-2 c =
     let at-hi = at_test.before.before in
     let at-lo = at-hi.before in
     let start = at-lo.before in
-    pair-no-borrow start.args.a start.args.b (al start) (bl start) (ah start) (bh start) start.requires (lo at-lo) (hi at-hi)
+    pair_no_borrow start.args.a start.args.b (al start) (bl start) (ah start) (bh start) start.requires (lo at-lo) (hi at-hi)
     at-lo.wrapping-sub-u64.ensures at-hi.wrapping-sub-u642.ensures c.if1.false
 
 pub sub_spec : {M : Type 1} → statement M

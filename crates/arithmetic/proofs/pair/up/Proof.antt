@@ -1,7 +1,7 @@
 -- `pair::up` meets its contract: a law of `Pairs` for each range of the shift. Assumes nothing.
 use Rattle.std.proofs.Common.{◌^◌, ◌<◌, arith, rules}
 use Rattle.arithmetic.specs.Internal.Pair.{val}
-use Rattle.arithmetic.proofs.Pairs.{shift_up_none, shift-up-fits, shift-up, shift-up-far}
+use Rattle.arithmetic.proofs.Pairs.{shift_up_none, shift_up_fits, shift_up, shift_up_far}
 use Rattle.arithmetic.proofs.pair.up.Statement.{statement}
 use Rattle.arithmetic.proofs.pair.up.Tie as tie
 
@@ -12,7 +12,7 @@ add-t10 : tie.Need-overflow-add-t10
 add-t10 c =
     let at-short = c.before.before in
     let start = at-short.before.before in
-    record { fits = shift-up-fits start.args.a start.args.d (al start) at-short.if2.true start.requires.1 }
+    record { fits = shift_up_fits start.args.a start.args.d (al start) at-short.if2.true start.requires.1 }
 
 returns : tie.Need-returns
 returns c = let a = c.before.args in shift_up_none (val a.a) a.d c.if1.true
@@ -22,13 +22,13 @@ returns-2 c =
     let at-lo = c.before.before in
     let at-short = at-lo.before in
     let start = at-short.before.before in
-    shift-up start.args.a start.args.d (al start) at-short.if2.true start.requires.1
+    shift_up start.args.a start.args.d (al start) at-short.if2.true start.requires.1
 
 returns-3 : tie.Need-returns-3
 returns-3 c =
     let at-far = c.before in
     let start = at-far.before.before in
-    shift-up-far start.args.a start.args.d (al start) at-far.if2.false start.requires.1
+    shift_up_far start.args.a start.args.d (al start) at-far.if2.false start.requires.1
 
 pub up-spec : {M : Type 1} → statement M
 up-spec =

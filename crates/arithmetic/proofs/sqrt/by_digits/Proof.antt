@@ -1,7 +1,7 @@
 -- `sqrt::by_digits` meets its contract, by the laws of `SqrtDigits`. The invariant: r is the whole root of the upper digits. The measure is the
 -- iterations that are left. Assumes nothing.
 use Rattle.std.proofs.Common.{◌-◌, ◌≤◌, ⊎_elim, arith}
-use Rattle.arithmetic.proofs.SqrtDigits.{Upper, Small, small, upper_none, next-0, next-1, nearest_above, nearest_itself, closest_of}
+use Rattle.arithmetic.proofs.SqrtDigits.{Upper, Small, small, upper_none, next_0, next_1, nearest_above, nearest_itself, closest_of}
 use Rattle.arithmetic.proofs.sqrt.by_digits.Statement.{statement}
 use Rattle.arithmetic.proofs.sqrt.by_digits.Tie as tie
 
@@ -20,7 +20,7 @@ loop-holds c = (upper_none _ (omega arith), omega arith)
 loop-again : tie.Need-loop-preserved invariant-loop decreases-loop
 loop-again c =
     let upper = c.before.before.loop.invariant.0 in (
-      ⊎_elim (λ h. rw (h.1, h.2) (next-1 _ _ _ _ _ upper h.0.taken)) (λ h. rw (h.1, h.2) (next-0 _ _ _ _ _ upper h.0.left)) c.if1.branch,
+      ⊎_elim (λ h. rw (h.1, h.2) (next_1 _ _ _ _ _ upper h.0.taken)) (λ h. rw (h.1, h.2) (next_0 _ _ _ _ _ upper h.0.left)) c.if1.branch,
       omega arith,
     )
 

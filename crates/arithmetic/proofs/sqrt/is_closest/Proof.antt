@@ -1,6 +1,6 @@
 -- `sqrt::is_closest` meets its contract: what passes its tests is the nearest root, by `tested`. Assumes nothing.
 use Rattle.std.proofs.Common.{arith, leb→le, rules}
-use Rattle.arithmetic.proofs.SqrtDigits.{upper_square, cross_product, lower-square, tested, closest_of}
+use Rattle.arithmetic.proofs.SqrtDigits.{upper_square, cross_product, lower_square, tested, closest_of}
 use Rattle.arithmetic.proofs.sqrt.is_closest.Statement.{statement}
 use Rattle.arithmetic.proofs.sqrt.is_closest.Tie as tie
 
@@ -14,7 +14,7 @@ mul-if6 : tie.Need-overflow-mul-if6
 mul-if6 c =
     let at-if3 = c.before.before in
     let at-if1 = at-if3.before.before in
-    omega (arith, lower-square at-if1.before.args.q at-if1.if1.false)
+    omega (arith, lower_square at-if1.before.args.q at-if1.if1.false)
 
 returns-7 : tie.Need-returns-7
 returns-7 c = λ t.

@@ -8,7 +8,7 @@ use Rattle.arithmetic.specs.Laws.Compare.{is_no_nan}
 use Rattle.arithmetic.specs.Laws.Patterns.{bits_no_nan}
 use Rattle.arithmetic.specs.Laws.Signs.{has_bits}
 use Rattle.arithmetic.proofs.Integers.{integer_fits}
-use Rattle.arithmetic.proofs.SqrtPaths.{of_nan, of_zero, of_itself, of_below, whole-no-nan, whole-normal, of-whole}
+use Rattle.arithmetic.proofs.SqrtPaths.{of_nan, of_zero, of_itself, of_below, whole_no_nan, whole_normal, of_whole}
 use Rattle.arithmetic.proofs.sqrt.sqrt.Statement.{statement}
 use Rattle.arithmetic.proofs.sqrt.sqrt.Tie as tie
 
@@ -53,11 +53,11 @@ int-to-float-c : tie.Need-int-to-float-c
 int-to-float-c c = integer_fits _ (omega arith)
 
 float-to-bits-c : tie.Need-float-to-bits-c
-float-to-bits-c c = whole-no-nan _ (omega arith) (omega arith)
+float-to-bits-c c = whole_no_nan _ (omega arith) (omega arith)
 
 of-normal-requires : tie.Need-of-normal-requires
 of-normal-requires c κs =
-    ⊎_elim (λ h. rw h.3 (whole-normal _ (omega arith) h.0.taken)) (λ h. omega arith) c.if4.branch
+    ⊎_elim (λ h. rw h.3 (whole_normal _ (omega arith) h.0.taken)) (λ h. omega arith) c.if4.branch
 
 float-from-bits-result : tie.Need-float-from-bits-result
 float-from-bits-result c = bits_no_nan _ (omega arith)
@@ -67,7 +67,7 @@ returns-5 c =
     let at_call = c.before.before in
     let finite = at_call.before in
     ⊎_elim
-    (λ h. of-whole _ (omega arith) c.if6.true _ (c.before.of-normal.ensures ∙ ap root-of h.3) ∙ ap sqrt (back finite.before.before))
+    (λ h. of_whole _ (omega arith) c.if6.true _ (c.before.of-normal.ensures ∙ ap root-of h.3) ∙ ap sqrt (back finite.before.before))
     (λ h. absurd (omega arith)) at_call.if4.branch
 
 returns-6 : tie.Need-returns-6

@@ -6,7 +6,7 @@ use native.Mathlib.Omega.{arith}
 use borrow.Author.Rules.{rules}
 use lib.ListN.{length, drop}
 use Rattle.cable_window.specs.Window.{zeros, after_writes, writes}
-use Rattle.cable_window.proofs.Steps.{writes-turn, ends-offsets, ends_words}
+use Rattle.cable_window.proofs.Steps.{writes_turn, ends_offsets, ends_words}
 use Rattle.cable_window.proofs.window.after_writes.Statement.{statement}
 use Rattle.cable_window.proofs.window.after_writes.Tie as tie
 
@@ -37,7 +37,7 @@ loop-again c =
     let entered = l.before.before in
     let a = entered.before.before.args in (
       omega arith,
-      writes-turn a.offsets.now a.words.now l.loop.i l.loop.window.bytes (omega arith) (omega arith) turn.written.ensures.1
+      writes_turn a.offsets.now a.words.now l.loop.i l.loop.window.bytes (omega arith) (omega arith) turn.written.ensures.1
           l.loop.invariant.1,
     )
 
@@ -46,7 +46,7 @@ returns-2 c =
     let l = c.before in
     let entered = l.before.before in
     let a = entered.before.before.args in
-    ends-offsets a.offsets.now a.words.now l.loop.i l.loop.window.bytes (omega arith) l.loop.invariant.1
+    ends_offsets a.offsets.now a.words.now l.loop.i l.loop.window.bytes (omega arith) l.loop.invariant.1
 
 pub after-writes-spec : {M : Type 1} → statement M
 after-writes-spec =

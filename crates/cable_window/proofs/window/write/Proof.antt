@@ -48,7 +48,7 @@ use denote.Triple.Walked.{says, Stays, stay_ref, stay_none, walk_of, AllGo, Goes
 use denote.Exit.{yes}
 use Rattle.cable_window.specs.Window as D
 use Rattle.cable_window.specs.declared.window.Window.{Window}
-use Rattle.cable_window.proofs.Steps.{write-refused}
+use Rattle.cable_window.proofs.Steps.{write_refused}
 use Rattle.cable_window.specs.contracts.window.Window as T
 use Rattle.cable_window.proofs.window.Window.TheLaws as T'
 use Rattle.cable_window.specs.contracts.window.after_write as after_write
@@ -212,7 +212,7 @@ module _
             move ! (14 ∷ 15 ∷ []) $ free1 ! $ move ! (12 ∷ 13 ∷ []) $ free1 ! $ move ! (10 ∷ 11 ∷ []) $ free1 ! $ move ! (8 ∷ 9 ∷ []) $ free1 ! $
             move ! (6 ∷ 7 ∷ []) $ free1 ! $ move ! (4 ∷ 5 ∷ []) $ free1 ! $ move ! (2 ∷ 3 ∷ []) $ free1 ! $ free1 ! $ free0 ! $
             move ! (1 ∷ []) $ fsplit ! $ fsplit3 ! $ drop ! $ move ! (3 ∷ []) $ split ! $ keep ! (2 ∷ 3 ∷ 0 ∷ []) $
-            by ! (exits h n (vint w32 n) (refl, is'.1) (e₂, write-refused h.bytes at word e₂ (not_zero n some))))))))))))))))
+            by ! (exits h n (vint w32 n) (refl, is'.1) (e₂, write_refused h.bytes at word e₂ (not_zero n some))))))))))))))))
 
 module _ {M : Type 1} {𝓤 : Ura M} (𝓛 : Logic 𝓤) (at_mem : Memory → SProp 𝓤) (run : Routine → Fun 𝓤) where
   open 𝓛 use {H}

@@ -10,7 +10,7 @@ use Rattle.arithmetic.specs.Operations.{plus_zero}
 use Rattle.arithmetic.specs.Laws.Numbers.{denied, affirmed}
 use Rattle.explicit_black.specs.Discount.{discounted_refusal}
 use Rattle.explicit_black.specs.Laws.Quote.{no_side, a_side}
-use Rattle.explicit_black.specs.Laws.Discount.{factor-not-finite, factor-tested-last}
+use Rattle.explicit_black.specs.Laws.Discount.{factor_not_finite, factor_tested_last}
 use Rattle.explicit_black.proofs.discount.discounted_refusal.Statement.{statement}
 use Rattle.explicit_black.proofs.discount.discounted_refusal.Tie as tie
 
@@ -20,7 +20,7 @@ number s = discounted_refusal s.args.side s.args.price s.args.forward s.args.str
 
 -- where the factor is not finite
 early : (c : tie.Then1) → let s = c.before.before in number s ≡ cond (eqb s.args.side 0 || eqb s.args.side 1) 2 1
-early c = factor-not-finite _ _ _ _ _ _ (denied _ _ c.before.is-finite.ensures c.if1.true)
+early c = factor_not_finite _ _ _ _ _ _ (denied _ _ c.before.is-finite.ensures c.if1.true)
 
 -- where it is, by the number of tests 1 to 4
 late : (c : tie.After-first-refusal) →
@@ -30,7 +30,7 @@ late : (c : tie.After-first-refusal) →
 late c =
     let at-finite = c.before in
     let s = at-finite.before.before in
-    factor-tested-last _ _ _ _ _ _ (affirmed _ _ at-finite.before.is-finite.ensures at-finite.if1.false)
+    factor_tested_last _ _ _ _ _ _ (affirmed _ _ at-finite.before.is-finite.ensures at-finite.if1.false)
     ∙ ap (λ (n : ℕ). cond (eqb n 0) (cond (lt plus_zero s.args.factor) 0 15) n) (sym c.first-refusal.ensures)
 
 -- and where the first return past it is passed, that is 0

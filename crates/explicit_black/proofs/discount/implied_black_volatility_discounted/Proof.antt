@@ -1,6 +1,6 @@
 -- `discount::implied_black_volatility_discounted` meets its contract: the reply of a quote that is allowed as many evaluations as any can make.
 -- Assumes nothing.
-use Rattle.explicit_black.specs.Laws.Discount.{discounted-count}
+use Rattle.explicit_black.specs.Laws.Discount.{discounted_count}
 use Rattle.explicit_black.proofs.Allowed.{enough_within}
 use Rattle.explicit_black.specs.Discount.{implied_black_volatility_discounted}
 use Rattle.explicit_black.proofs.discount.implied_black_volatility_discounted.Statement.{statement}
@@ -9,7 +9,7 @@ use Rattle.explicit_black.proofs.discount.implied_black_volatility_discounted.Ti
 reply-requires : tie.Need-reply-requires
 reply-requires c κs =
     let at-outcome = c.before in
-    enough_within 2263 _ _ (rw at-outcome.before.new.ensures at at-outcome.from-discounted-quote.ensures) (discounted-count _ _ _ _ _ _)
+    enough_within 2263 _ _ (rw at-outcome.before.new.ensures at at-outcome.from-discounted-quote.ensures) (discounted_count _ _ _ _ _ _)
 
 returns : tie.Need-returns
 unfolding implied_black_volatility_discounted

@@ -5,7 +5,7 @@ use mathlib.Core.Path.{ap}
 use Rattle.inverse_gaussian.specs.Counted.{limited}
 use Rattle.inverse_gaussian.specs.Bracket.{halvings, halving_loop, bracket_quantile_from_above}
 use Rattle.inverse_gaussian.specs.Internal.Searches.{view_evaluation, view_widening}
-use Rattle.inverse_gaussian.specs.Laws.Counted.{Carried, carried, carried-at, carried-spent, some_spent, some_have, fewer, seen}
+use Rattle.inverse_gaussian.specs.Laws.Counted.{Carried, carried, carried_at, carried_spent, some_spent, some_have, fewer, seen}
 use Rattle.inverse_gaussian.proofs.HalvingEnds.{ends_above}
 use Rattle.inverse_gaussian.proofs.Turns.{told, turned, found}
 use Rattle.inverse_gaussian.proofs.bracket.bracket_quantile_from_above.Statement.{statement}
@@ -35,7 +35,7 @@ returns-2 c =
     let at-cdf = c.before.before in
     let at-trial = at-cdf.before.before in
     some_spent _ _
-    (carried-spent _ (carried-at at-trial.before.before.loop.invariant (ap view_widening at-trial.trial2.given.1))
+    (carried_spent _ (carried_at at-trial.before.before.loop.invariant (ap view_widening at-trial.trial2.given.1))
     (seen (view_evaluation _) at-cdf.inverse-gaussian-cdf.ensures c.enum_told.given.1))
 
 loop-less : tie.Need-loop-smaller invariant-loop decreases-loop
@@ -48,7 +48,7 @@ loop-again c =
     let at_value = c.before.before in
     let at-cdf = at_value.before.before in
     let at-trial = at-cdf.before.before in
-    (turned (carried-at at-trial.before.before.loop.invariant (ap view_widening at-trial.trial2.given.1))
+    (turned (carried_at at-trial.before.before.loop.invariant (ap view_widening at-trial.trial2.given.1))
     (told (seen (view_evaluation _) at-cdf.inverse-gaussian-cdf.ensures at_value.cdf.given.1)) c.lowered.ensures).carried
 
 pub bracket-quantile-from-above-spec : {M : Type 1} → statement M

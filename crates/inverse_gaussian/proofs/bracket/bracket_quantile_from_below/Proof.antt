@@ -9,7 +9,7 @@ use Rattle.inverse_gaussian.specs.Counted.{Metered, limited}
 use Rattle.inverse_gaussian.specs.Loops.{go}
 use Rattle.inverse_gaussian.specs.Bracket.{doublings, doubling_loop, bracket_quantile_from_below}
 use Rattle.inverse_gaussian.specs.Internal.Searches.{view_evaluation, view_widening}
-use Rattle.inverse_gaussian.specs.Laws.Counted.{Carried, carried, carried-at, carried-spent, some_spent, some_have, seen}
+use Rattle.inverse_gaussian.specs.Laws.Counted.{Carried, carried, carried_at, carried_spent, some_spent, some_have, seen}
 use Rattle.inverse_gaussian.proofs.DoublingEnds.{ends_below}
 use Rattle.inverse_gaussian.proofs.Turns.{told, Turned, turned, found}
 use Rattle.inverse_gaussian.proofs.bracket.bracket_quantile_from_below.Statement.{statement}
@@ -57,7 +57,7 @@ returns : tie.Need-returns invariant-loop decreases-loop
 returns c =
     let at-cdf = c.before.before in
     let no_value = seen (view_evaluation _) at-cdf.inverse-gaussian-cdf.ensures c.enum_told.given.1 in
-    some_spent _ _ (carried-spent _ at-cdf.before.loop.invariant no_value)
+    some_spent _ _ (carried_spent _ at-cdf.before.loop.invariant no_value)
 
 returns-2 : tie.Need-returns-2 invariant-loop decreases-loop
 returns-2 c =
@@ -72,7 +72,7 @@ loop-less c =
 loop-again : tie.Need-loop-preserved invariant-loop decreases-loop
 loop-again c =
     let wider = c.before in
-    carried-at (turn wider.before.before).carried (ap view_widening wider.b2.given.1)
+    carried_at (turn wider.before.before).carried (ap view_widening wider.b2.given.1)
 
 pub bracket-quantile-from-below-spec : {M : Type 1} → statement M
 bracket-quantile-from-below-spec =

@@ -9,7 +9,7 @@ use Rattle.inverse_gaussian.specs.Loops.{go}
 use Rattle.inverse_gaussian.specs.Newton.{newton_loop, steps}
 use Rattle.inverse_gaussian.specs.Internal.Searches.{view_evaluation, view_stepped}
 use Rattle.inverse_gaussian.specs.Laws.Counted.{Left, left_at, seen}
-use Rattle.inverse_gaussian.proofs.Turns.{told, stepped, left-found, left-no-value, left-last}
+use Rattle.inverse_gaussian.proofs.Turns.{told, stepped, left_found, left_no_value, left_last}
 use Rattle.inverse_gaussian.proofs.newton.steps.Statement.{statement}
 use Rattle.inverse_gaussian.proofs.newton.steps.Tie as tie
 
@@ -42,18 +42,18 @@ returns : tie.Need-returns invariant-loop decreases-loop
 returns c =
     let root = c.before in
     let at-match = root.before in
-    left-found at-match.before.before.loop.invariant.0 (ap view_stepped root.next.given.1)
+    left_found at-match.before.before.loop.invariant.0 (ap view_stepped root.next.given.1)
 
 returns-2 : tie.Need-returns-2 invariant-loop decreases-loop
 returns-2 c =
     let at-match = c.before in
-    left-found at-match.before.before.loop.invariant.0 (ap view_stepped c.enum_told.given.1)
+    left_found at-match.before.before.loop.invariant.0 (ap view_stepped c.enum_told.given.1)
 
 returns-3 : tie.Need-returns-3 invariant-loop decreases-loop
 returns-3 c =
     let at-cdf = c.before.before in
     let no_value = seen (view_evaluation _) at-cdf.inverse-gaussian-cdf.ensures c.enum-told2.given.1 in
-    left-no-value _ (open_step at-cdf.before.before) (omega arith) no_value
+    left_no_value _ (open_step at-cdf.before.before) (omega arith) no_value
 
 loop-again : tie.Need-loop-preserved invariant-loop decreases-loop
 loop-again c =
@@ -70,7 +70,7 @@ loop-again c =
     )
 
 returns-4 : tie.Need-returns-4 invariant-loop decreases-loop
-returns-4 c = c.last.ensures ∙ left-last _ _ _ _ c.before.before.loop.invariant.0 (omega arith)
+returns-4 c = c.last.ensures ∙ left_last _ _ _ _ c.before.before.loop.invariant.0 (omega arith)
 
 pub steps-spec : {M : Type 1} → statement M
 steps-spec =

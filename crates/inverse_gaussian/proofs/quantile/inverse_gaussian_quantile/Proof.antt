@@ -6,7 +6,7 @@ use Rattle.arithmetic.specs.Laws.Numbers.{denied, affirmed}
 use Rattle.inverse_gaussian.specs.Quantile.{solvable}
 use Rattle.inverse_gaussian.specs.Internal.Searches.{view_quantile}
 use Rattle.inverse_gaussian.specs.Laws.Counted.{seen}
-use Rattle.inverse_gaussian.proofs.Searches.{solvable_finite_positive, unsolvable, newton-root, newton-none, newton-spent}
+use Rattle.inverse_gaussian.proofs.Searches.{solvable_finite_positive, unsolvable, newton_root, newton_none, newton_spent}
 use Rattle.inverse_gaussian.proofs.quantile.inverse_gaussian_quantile.Statement.{statement}
 use Rattle.inverse_gaussian.proofs.quantile.inverse_gaussian_quantile.Tie as tie
 
@@ -30,7 +30,7 @@ returns-2 c =
     let root = c.before in
     let at-filter = root.before.before in
     let at-newton = at-filter.before in
-    newton-root _ _ _ _ (passed at-newton.before) at-newton.inverse-gaussian-quantile-actuar.ensures
+    newton_root _ _ _ _ (passed at-newton.before) at-newton.inverse-gaussian-quantile-actuar.ensures
     (seen view_quantile at-filter.filtered.ensures root.root.given.1)
 
 returns-3 : tie.Need-returns-3
@@ -38,14 +38,14 @@ returns-3 c =
     let no-root = c.before.before in
     let at-filter = no-root.before.before in
     let at-newton = at-filter.before in
-    newton-none _ _ _ _ (passed at-newton.before) at-newton.inverse-gaussian-quantile-actuar.ensures
+    newton_none _ _ _ _ (passed at-newton.before) at-newton.inverse-gaussian-quantile-actuar.ensures
     (seen view_quantile at-filter.filtered.ensures no-root.left.given.1) c.inverse-gaussian-quantile-bracketed.ensures
 
 returns-4 : tie.Need-returns-4
 returns-4 c =
     let at-filter = c.before.before in
     let at-newton = at-filter.before in
-    newton-spent _ _ _ _ (passed at-newton.before) at-newton.inverse-gaussian-quantile-actuar.ensures
+    newton_spent _ _ _ _ (passed at-newton.before) at-newton.inverse-gaussian-quantile-actuar.ensures
     (seen view_quantile at-filter.filtered.ensures c.enum_told.given.1)
 
 pub inverse-gaussian-quantile-spec : {M : Type 1} → statement M

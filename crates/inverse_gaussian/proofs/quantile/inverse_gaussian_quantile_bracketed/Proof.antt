@@ -7,14 +7,14 @@ use Rattle.inverse_gaussian.specs.Quantile.{inverse_gaussian_quantile_bracketed}
 use Rattle.inverse_gaussian.specs.Internal.Searches.{view_evaluation, view_reach}
 use Rattle.inverse_gaussian.specs.Laws.Counted.{seen}
 use Rattle.inverse_gaussian.proofs.Turns.{told}
-use Rattle.inverse_gaussian.proofs.Searches.{start_finite_positive, no-guess, bracketed_from, from-guess, no-bracket, nowhere, in-bracket}
+use Rattle.inverse_gaussian.proofs.Searches.{start_finite_positive, no_guess, bracketed_from, from_guess, no_bracket, nowhere, in_bracket_lem}
 use Rattle.inverse_gaussian.proofs.quantile.inverse_gaussian_quantile_bracketed.Statement.{
   statement,
 }
 use Rattle.inverse_gaussian.proofs.quantile.inverse_gaussian_quantile_bracketed.Tie as tie
 
 returns : tie.Need-returns
-returns c = no-guess _ _ _ _ (seen (view_evaluation _) c.before.before.inverse-gaussian-cdf.ensures c.enum_told.given.1)
+returns c = no_guess _ _ _ _ (seen (view_evaluation _) c.before.before.inverse-gaussian-cdf.ensures c.enum_told.given.1)
 
 bracket-at-requires : tie.Need-bracket-at-requires
 bracket-at-requires c κs =
@@ -34,7 +34,7 @@ from-value : (c : tie.After-cdf) {q : Metered (Option Float)} →
 from-value c h =
     let at-cdf = c.before.before in
     let at-start = at-cdf.before in
-    from-guess _ _ at-start.before.inverse-gaussian-quantile-initial-guess.ensures at-start.starting-point.ensures
+    from_guess _ _ at-start.before.inverse-gaussian-quantile-initial-guess.ensures at-start.starting-point.ensures
     (told (seen (view_evaluation _) at-cdf.inverse-gaussian-cdf.ensures c.cdf.given.1)) h
 
 returns-2 : tie.Need-returns-2
@@ -43,7 +43,7 @@ returns-2 c =
     let found = at-clamped.before.before in
     let at_Bracket = found.before.before in
     from-value at_Bracket.before.before
-    (in-bracket _ _ _ (seen view_reach at_Bracket.bracket-at.ensures found.bracket.given.1)
+    (in_bracket_lem _ _ _ (seen view_reach at_Bracket.bracket-at.ensures found.bracket.given.1)
     (rw at-clamped.clamped.ensures at c.iterations.ensures))
 
 returns-3 : tie.Need-returns-3
@@ -55,7 +55,7 @@ returns-3 c =
 returns-4 : tie.Need-returns-4
 returns-4 c =
     let at_Bracket = c.before.before in
-    from-value at_Bracket.before.before (no-bracket _ _ _ (seen view_reach at_Bracket.bracket-at.ensures c.enum-told2.given.1))
+    from-value at_Bracket.before.before (no_bracket _ _ _ (seen view_reach at_Bracket.bracket-at.ensures c.enum-told2.given.1))
 
 pub inverse-gaussian-quantile-bracketed-spec : {M : Type 1} → statement M
 inverse-gaussian-quantile-bracketed-spec =

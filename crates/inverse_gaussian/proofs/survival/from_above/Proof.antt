@@ -6,7 +6,7 @@ use Rattle.inverse_gaussian.specs.Counted.{limited}
 use Rattle.inverse_gaussian.specs.Bracket.{halvings}
 use Rattle.inverse_gaussian.specs.Survival.{survival_halving_loop, survival_from_above}
 use Rattle.inverse_gaussian.specs.Internal.Searches.{view_survival_evaluation, view_widening}
-use Rattle.inverse_gaussian.specs.Laws.Counted.{Carried, carried, carried-at, carried-spent, some_spent, some_have, fewer, seen}
+use Rattle.inverse_gaussian.specs.Laws.Counted.{Carried, carried, carried_at, carried_spent, some_spent, some_have, fewer, seen}
 use Rattle.inverse_gaussian.proofs.HalvingEnds.{survival_ends_above}
 use Rattle.inverse_gaussian.proofs.Turns.{told, turned, found}
 use Rattle.inverse_gaussian.proofs.survival.from_above.Statement.{statement}
@@ -36,7 +36,7 @@ returns-2 c =
     let at-survival = c.before.before in
     let at-trial = at-survival.before.before in
     some_spent _ _
-    (carried-spent _ (carried-at at-trial.before.before.loop.invariant (ap view_widening at-trial.trial2.given.1))
+    (carried_spent _ (carried_at at-trial.before.before.loop.invariant (ap view_widening at-trial.trial2.given.1))
     (seen (view_survival_evaluation _) at-survival.inverse-gaussian-survival.ensures c.enum_told.given.1))
 
 loop-less : tie.Need-loop-smaller invariant-loop decreases-loop
@@ -49,7 +49,7 @@ loop-again c =
     let at_value = c.before.before in
     let at-survival = at_value.before.before in
     let at-trial = at-survival.before.before in
-    (turned (carried-at at-trial.before.before.loop.invariant (ap view_widening at-trial.trial2.given.1))
+    (turned (carried_at at-trial.before.before.loop.invariant (ap view_widening at-trial.trial2.given.1))
     (told (seen (view_survival_evaluation _) at-survival.inverse-gaussian-survival.ensures at_value.survival.given.1))
     c.survival-lowered.ensures).carried
 

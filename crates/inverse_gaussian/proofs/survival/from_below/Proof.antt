@@ -10,7 +10,7 @@ use Rattle.inverse_gaussian.specs.Loops.{go}
 use Rattle.inverse_gaussian.specs.Bracket.{doublings}
 use Rattle.inverse_gaussian.specs.Survival.{survival_doubling_loop, survival_from_below}
 use Rattle.inverse_gaussian.specs.Internal.Searches.{view_survival_evaluation, view_doubling}
-use Rattle.inverse_gaussian.specs.Laws.Counted.{Carried, carried, carried-at, carried-spent, seen}
+use Rattle.inverse_gaussian.specs.Laws.Counted.{Carried, carried, carried_at, carried_spent, seen}
 use Rattle.inverse_gaussian.proofs.DoublingEnds.{survival_ends_below}
 use Rattle.inverse_gaussian.proofs.Turns.{told, Turned, turned, found}
 use Rattle.inverse_gaussian.proofs.survival.from_below.Statement.{statement}
@@ -58,7 +58,7 @@ returns : tie.Need-returns invariant-loop decreases-loop
 returns c =
     let at-survival = c.before.before in
     let no_value = seen (view_survival_evaluation _) at-survival.inverse-gaussian-survival.ensures c.enum_told.given.1 in
-    carried-spent _ at-survival.before.loop.invariant no_value
+    carried_spent _ at-survival.before.loop.invariant no_value
 
 returns-2 : tie.Need-returns-2 invariant-loop decreases-loop
 returns-2 c =
@@ -76,7 +76,7 @@ loop-less c =
 loop-again : tie.Need-loop-preserved invariant-loop decreases-loop
 loop-again c =
     let wider = c.before in
-    carried-at (turn wider.before.before).carried (ap view_doubling wider.b2.given.1)
+    carried_at (turn wider.before.before).carried (ap view_doubling wider.b2.given.1)
 
 pub from-below-spec : {M : Type 1} → statement M
 from-below-spec =

@@ -10,8 +10,8 @@ use Rattle.inverse_gaussian.specs.Survival.{inverse_gaussian_quantile_from_survi
 use Rattle.inverse_gaussian.specs.Internal.Searches.{view_survival_evaluation, view_reach}
 use Rattle.inverse_gaussian.specs.Laws.Counted.{seen}
 use Rattle.inverse_gaussian.proofs.Turns.{told}
-use Rattle.inverse_gaussian.proofs.Searches.{solvable_finite_positive, start_finite_positive, no-bracket, nowhere, in-bracket}
-use Rattle.inverse_gaussian.proofs.Searches.{survival-unsolvable, survival-no-guess, survival_from, survival-from-guess}
+use Rattle.inverse_gaussian.proofs.Searches.{solvable_finite_positive, start_finite_positive, no_bracket, nowhere, in_bracket_lem}
+use Rattle.inverse_gaussian.proofs.Searches.{survival_unsolvable, survival_no_guess, survival_from, survival_from_guess}
 use Rattle.inverse_gaussian.proofs.survival.inverse_gaussian_quantile_from_survival.Statement.{
   statement,
 }
@@ -22,14 +22,14 @@ passed : (c : tie.Else1) → let start = c.before.before in solvable start.args.
 passed c = affirmed _ _ c.before.is-solvable.ensures c.if1.false
 
 returns : tie.Need-returns
-returns c = survival-unsolvable _ _ _ (denied _ _ c.before.is-solvable.ensures c.if1.true)
+returns c = survival_unsolvable _ _ _ (denied _ _ c.before.is-solvable.ensures c.if1.true)
 
 returns-2 : tie.Need-returns-2
 returns-2 c =
     let at-survival = c.before.before in
     let at-start = at-survival.before in
     let at-norm-cdf = at-start.before.before in
-    survival-no-guess _ _ _ _ (passed at-norm-cdf.before)
+    survival_no_guess _ _ _ _ (passed at-norm-cdf.before)
     (seen (view_survival_evaluation _) at-survival.inverse-gaussian-survival.ensures c.enum_told.given.1)
 
 survival-bracket-at-requires : tie.Need-survival-bracket-at-requires
@@ -57,7 +57,7 @@ from-value c h =
     let at-survival = c.before.before in
     let at-start = at-survival.before in
     let at-norm-cdf = at-start.before.before in
-    survival-from-guess _ _ (passed at-norm-cdf.before) at-norm-cdf.inverse-norm-cdf.ensures
+    survival_from_guess _ _ (passed at-norm-cdf.before) at-norm-cdf.inverse-norm-cdf.ensures
     at-start.before.inverse-gaussian-quantile-initial-guess-from-z.ensures at-start.starting-point.ensures
     (told (seen (view_survival_evaluation _) at-survival.inverse-gaussian-survival.ensures c.survival.given.1)) h
 
@@ -66,7 +66,7 @@ returns-3 c =
     let found = c.before.before in
     let at_Bracket = found.before.before in
     from-value at_Bracket.before.before
-    (in-bracket _ _ _ (seen view_reach at_Bracket.survival-bracket-at.ensures found.bracket.given.1) c.survival-iterations.ensures)
+    (in_bracket_lem _ _ _ (seen view_reach at_Bracket.survival-bracket-at.ensures found.bracket.given.1) c.survival-iterations.ensures)
 
 returns-4 : tie.Need-returns-4
 returns-4 c =
@@ -77,7 +77,7 @@ returns-4 c =
 returns-5 : tie.Need-returns-5
 returns-5 c =
     let at_Bracket = c.before.before in
-    from-value at_Bracket.before.before (no-bracket _ _ _ (seen view_reach at_Bracket.survival-bracket-at.ensures c.enum-told2.given.1))
+    from-value at_Bracket.before.before (no_bracket _ _ _ (seen view_reach at_Bracket.survival-bracket-at.ensures c.enum-told2.given.1))
 
 pub inverse-gaussian-quantile-from-survival-spec : {M : Type 1} → statement M
 inverse-gaussian-quantile-from-survival-spec =

@@ -12,7 +12,7 @@ use Rattle.inverse_gaussian.specs.Curves.{inverse_gaussian_survival}
 use Rattle.inverse_gaussian.specs.Survival.{survival_iteration, survival_iteration_loop, survival_iterations}
 use Rattle.inverse_gaussian.specs.Internal.Searches.{view_survival_evaluation, view_iteration}
 use Rattle.inverse_gaussian.specs.Laws.Counted.{Left, left_at, left_out, some_spent, some_have, seen}
-use Rattle.inverse_gaussian.proofs.Turns.{told, iterated, left-found, left-no-value}
+use Rattle.inverse_gaussian.proofs.Turns.{told, iterated, left_found, left_no_value}
 use Rattle.inverse_gaussian.proofs.survival.survival_iterations.Statement.{statement}
 use Rattle.inverse_gaussian.proofs.survival.survival_iterations.Tie as tie
 
@@ -54,12 +54,12 @@ returns : tie.Need-returns invariant-loop decreases-loop
 returns c =
     let at-survival = c.before.before in
     let no_value = seen (view_survival_evaluation _) at-survival.inverse-gaussian-survival.ensures c.enum_told.given.1 in
-    some_spent _ _ (left-no-value _ at-survival.before.before.loop.invariant.0 (omega arith) no_value)
+    some_spent _ _ (left_no_value _ at-survival.before.before.loop.invariant.0 (omega arith) no_value)
 
 returns-2 : tie.Need-returns-2 invariant-loop decreases-loop
 returns-2 c =
     let ended = c.before in
-    some_have _ _ _ _ (left-found (turn ended.before.before) (ap view_iteration ended.root.given.1))
+    some_have _ _ _ _ (left_found (turn ended.before.before) (ap view_iteration ended.root.given.1))
 
 loop-again : tie.Need-loop-preserved invariant-loop decreases-loop
 loop-again c =

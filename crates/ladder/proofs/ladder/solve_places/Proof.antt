@@ -3,7 +3,7 @@ use Prim.Native.Nat.{◌*◌, ◌-◌, ◌^◌, ◌<◌}
 use native.Mathlib.Omega.{arith}
 use lib.ListN.{length}
 use Rattle.ladder.specs.Laws.Places.{Lengths, accepted}
-use Rattle.ladder.proofs.Places.{Sofar, nothing_yet, room, totals-kept, volatilities-kept, counts-kept, refusals-kept, one_more, all-places}
+use Rattle.ladder.proofs.Places.{Sofar, nothing_yet, room, totals_kept, volatilities_kept, counts_kept, refusals_kept, one_more, all_places}
 use borrow.Author.Rules.{rules}
 use Rattle.ladder.proofs.ladder.solve_places.Statement.{statement}
 use Rattle.ladder.proofs.ladder.solve_places.Tie as tie
@@ -70,19 +70,19 @@ slice-write-totals : tie.Need-slice-write-totals invariant-loop decreases-loop
 slice-write-totals c =
     let turn = at_turn c in
     let h = turn.before in
-    omega (arith, turn.loop-test.taken, totals-kept (lengths h) h.loop.inv, (lengths h).totals-equal)
+    omega (arith, turn.loop-test.taken, totals_kept (lengths h) h.loop.inv, (lengths h).totals-equal)
 
 slice-write-volatilities : tie.Need-slice-write-volatilities invariant-loop decreases-loop
 slice-write-volatilities c =
     let turn = at_turn c in
     let h = turn.before in
-    omega (arith, turn.loop-test.taken, volatilities-kept (lengths h) h.loop.inv, (lengths h).volatilities-equal)
+    omega (arith, turn.loop-test.taken, volatilities_kept (lengths h) h.loop.inv, (lengths h).volatilities-equal)
 
 slice-write-counts : tie.Need-slice-write-counts invariant-loop decreases-loop
 slice-write-counts c =
     let turn = at_turn c in
     let h = turn.before in
-    omega (arith, turn.loop-test.taken, counts-kept (lengths h) h.loop.inv, (lengths h).counts-equal)
+    omega (arith, turn.loop-test.taken, counts_kept (lengths h) h.loop.inv, (lengths h).counts-equal)
 
 mul-refusals : tie.Need-overflow-mul-refusals invariant-loop decreases-loop
 mul-refusals c = omega (arith, eights (at_turn c))
@@ -91,7 +91,7 @@ slice-write-refusals : tie.Need-slice-write-refusals invariant-loop decreases-lo
 slice-write-refusals c =
     let turn = at_turn c in
     let h = turn.before in
-    omega (arith, turn.loop-test.taken, refusals-kept (lengths h) h.loop.inv, (lengths h).refusals-equal)
+    omega (arith, turn.loop-test.taken, refusals_kept (lengths h) h.loop.inv, (lengths h).refusals-equal)
 
 add-i : tie.Need-overflow-add-i invariant-loop decreases-loop
 add-i c = omega (arith, eights (at_turn c.before))
@@ -110,22 +110,22 @@ loop-again c =
     one_more (lengths h) h.loop.inv same.0 same.1 same.2 _ _ _ _ _ _ _ _ turn.loop-test.taken solved.0 solved.1 at_place.of2.ensures
 
 same_length : tie.Need-same-length invariant-loop decreases-loop
-same_length c = let h = c.before.before in totals-kept (lengths h) h.loop.invariant
+same_length c = let h = c.before.before in totals_kept (lengths h) h.loop.invariant
 
 same-length-2 : tie.Need-same-length-2 invariant-loop decreases-loop
-same-length-2 c = let h = c.before.before in volatilities-kept (lengths h) h.loop.invariant
+same-length-2 c = let h = c.before.before in volatilities_kept (lengths h) h.loop.invariant
 
 same-length-3 : tie.Need-same-length-3 invariant-loop decreases-loop
-same-length-3 c = let h = c.before.before in counts-kept (lengths h) h.loop.invariant
+same-length-3 c = let h = c.before.before in counts_kept (lengths h) h.loop.invariant
 
 same-length-4 : tie.Need-same-length-4 invariant-loop decreases-loop
-same-length-4 c = let h = c.before.before in refusals-kept (lengths h) h.loop.invariant
+same-length-4 c = let h = c.before.before in refusals_kept (lengths h) h.loop.invariant
 
 returns : tie.Need-returns invariant-loop decreases-loop
 returns c =
     let after = c.before in
     let at-loop = after.before in
-    all-places (lengths at-loop) at-loop.loop.invariant c.taken.ensures after.loop-test.false
+    all_places (lengths at-loop) at-loop.loop.invariant c.taken.ensures after.loop-test.false
 
 pub solve-places-spec : {M : Type 1} → statement M
 solve-places-spec =

@@ -3,7 +3,7 @@ use mathlib.Core.Path.{◌≡◌, sym, ap, ◌∙◌}
 use Rattle.explicit_black.specs.Quote.{first_refusal, intrinsic_value, price_bound, bound_tests}
 use Rattle.ladder.specs.Ladder.{roots_after}
 use Rattle.explicit_black.specs.Internal.Quote.{view_tested}
-use Rattle.ladder.specs.Laws.Places.{early-reply, early-root, decided-reply, decided-total, decided-root, open-reply, open-root}
+use Rattle.ladder.specs.Laws.Places.{early_reply, early_root, decided_reply, decided_total, decided_root, open_reply_lem, open_root}
 use borrow.Author.Rules.{rules}
 use Rattle.ladder.proofs.place.solve_place.Statement.{statement}
 use Rattle.ladder.proofs.place.solve_place.Tie as tie
@@ -36,8 +36,8 @@ returns c =
     let at_test = c.before in
     let at-number = at_test.before in
     let first = at-number.first-refusal.ensures in (
-      c.refused.ensures.0 ∙ early-reply _ _ _ _ _ _ first at_test.if1.true,
-      c.refused.ensures.1 ∙ ap (λ b. roots_after b at-number.before.args.roots.taken) (sym (early-root _ _ _ _ _ _ first at_test.if1.true)),
+      c.refused.ensures.0 ∙ early_reply _ _ _ _ _ _ first at_test.if1.true,
+      c.refused.ensures.1 ∙ ap (λ b. roots_after b at-number.before.args.roots.taken) (sym (early_root _ _ _ _ _ _ first at_test.if1.true)),
     )
 
 returns-2 : tie.Need-returns-2
@@ -46,8 +46,8 @@ returns-2 c =
     let b = at-total.before.before in
     let start = (at_first b).before in
     let known = sym (ap view_tested at-total.total.given.1) ∙ tested b in (
-      decided-total _ _ _ _ _ (passes b) _ _ _ start.pre.0.1 c.volatility.ensures known,
-      ap (λ b. roots_after b start.args.roots.taken) (sym (decided-root _ _ _ _ _ (passes b) _ known)),
+      decided_total _ _ _ _ _ (passes b) _ _ _ start.pre.0.1 c.volatility.ensures known,
+      ap (λ b. roots_after b start.args.roots.taken) (sym (decided_root _ _ _ _ _ (passes b) _ known)),
     )
 
 returns-3 : tie.Need-returns-3
@@ -56,8 +56,8 @@ returns-3 c =
     let b = at-number.before.before in
     let start = (at_first b).before in
     let known = sym (ap view_tested at-number.number.given.1) ∙ tested b in (
-      c.refused2.ensures.0 ∙ decided-reply _ _ _ _ _ (passes b) _ known,
-      c.refused2.ensures.1 ∙ ap (λ b. roots_after b start.args.roots.taken) (sym (decided-root _ _ _ _ _ (passes b) _ known)),
+      c.refused2.ensures.0 ∙ decided_reply _ _ _ _ _ (passes b) _ known,
+      c.refused2.ensures.1 ∙ ap (λ b. roots_after b start.args.roots.taken) (sym (decided_root _ _ _ _ _ (passes b) _ known)),
     )
 
 returns-4 : tie.Need-returns-4
@@ -67,8 +67,8 @@ returns-4 c =
     let start = (at_first b).before in
     let at-intrinsic = b.before.before in
     let known = sym (ap view_tested at_open.enum_told.given.1) ∙ tested b in (
-      c.solve-open.ensures.0 ∙ open-reply _ _ _ _ _ (passes b) _ at-intrinsic.intrinsic-value.ensures known,
-      c.solve-open.ensures.1 ∙ ap (λ b. roots_after b start.args.roots.taken) (sym (open-root _ _ _ _ _ (passes b) known)),
+      c.solve-open.ensures.0 ∙ open_reply_lem _ _ _ _ _ (passes b) _ at-intrinsic.intrinsic-value.ensures known,
+      c.solve-open.ensures.1 ∙ ap (λ b. roots_after b start.args.roots.taken) (sym (open_root _ _ _ _ _ (passes b) known)),
     )
 
 pub solve-place-spec : {M : Type 1} → statement M

@@ -4,7 +4,7 @@ use lib.Dec.{T}
 use lib.Ieee.{Float, binary64, fits}
 use denote.Floats.{passes}
 use Rattle.special_function.specs.ErrorFunction.{smoothened_exponential_of_negative_square}
-use Rattle.special_function.proofs.Sixteenths.{InTable, in_table, no_nan, index-range, by-table}
+use Rattle.special_function.proofs.Sixteenths.{InTable, in_table, no_nan, index_range, by_table}
 use Rattle.special_function.proofs.error_function.smoothened_exponential_of_negative_square.Statement.{statement}
 use Rattle.special_function.proofs.error_function.smoothened_exponential_of_negative_square.Tie as tie
 
@@ -22,13 +22,13 @@ float-to-bits-power-at : tie.Need-float-to-bits-power-at
 float-to-bits-power-at c = no_nan (arg c) (held c) (found c)
 
 power-at-requires : tie.Need-power-at-requires
-power-at-requires c κs = index-range (arg c) (held c) (found c) (passes _ c.if2.true)
+power-at-requires c κs = index_range (arg c) (held c) (found c) (passes _ c.if2.true)
 
 returns : tie.Need-returns
 returns c =
     let after-power = c.before in
     let at = after-power.before in
-    rw (after-power.power_at.ensures, c.exp.ensures) (by-table (arg at) (held at) (found at) (passes _ at.if2.true))
+    rw (after-power.power_at.ensures, c.exp.ensures) (by_table (arg at) (held at) (found at) (passes _ at.if2.true))
 
 returns-2 : tie.Need-returns-2
 unfolding smoothened_exponential_of_negative_square

@@ -8,9 +8,9 @@ use Rattle.special_function.proofs.AsymptoticSum.{
   magnitude_in_units,
   LoopInvariant,
   invariant_start,
-  magnitude-falls,
-  invariant-next,
-  sum-at-stop,
+  magnitude_falls,
+  invariant_next,
+  sum_at_stop,
 }
 use Rattle.special_function.proofs.normal_distribution.asymptotic_sum.Statement.{statement}
 use Rattle.special_function.proofs.normal_distribution.asymptotic_sum.Tie as tie
@@ -27,23 +27,23 @@ loop-holds c = invariant_start _
 returns : tie.Need-returns invariant-loop decreases-loop
 returns c =
     let after_next = c.before.before in
-    let stops = sym c.before.goes_on.ensures ∙ not-true _ c.if1.true in
-    sum-at-stop _ _ _ after_next.before.loop.invariant after_next.next.ensures stops
+    let stops = sym c.before.goes_on_lem.ensures ∙ not-true _ c.if1.true in
+    sum_at_stop _ _ _ after_next.before.loop.invariant after_next.next.ensures stops
 
 -- where the test lets the loop go on, so does the definition's
-goes_on : (c : tie.Else1 invariant-loop decreases-loop) → let after_next = c.before.before in
+goes_on_lem : (c : tie.Else1 invariant-loop decreases-loop) → let after_next = c.before.before in
     goes_on after_next.before.loop.s.a after_next.next.result ≡ true
-goes_on c = sym c.before.goes_on.ensures ∙ not-false _ c.if1.false
+goes_on_lem c = sym c.before.goes_on_lem.ensures ∙ not-false _ c.if1.false
 
 loop-less : tie.Need-loop-smaller invariant-loop decreases-loop
 loop-less c =
     let after_next = c.before.before in
-    magnitude-falls _ _ _ after_next.before.loop.invariant after_next.next.ensures (goes_on c)
+    magnitude_falls _ _ _ after_next.before.loop.invariant after_next.next.ensures (goes_on_lem c)
 
 loop-again : tie.Need-loop-preserved invariant-loop decreases-loop
 loop-again c =
     let after_next = c.before.before in
-    invariant-next _ _ _ after_next.before.loop.invariant after_next.next.ensures (goes_on c)
+    invariant_next _ _ _ after_next.before.loop.invariant after_next.next.ensures (goes_on_lem c)
 
 pub asymptotic-sum-spec : {M : Type 1} → statement M
 asymptotic-sum-spec = tie.close (tie.spec invariant-loop decreases-loop loop-holds (λ c κs. tt) (λ c κs. tt) returns loop-less loop-again)

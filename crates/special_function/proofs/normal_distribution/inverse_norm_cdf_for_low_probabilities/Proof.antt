@@ -10,15 +10,15 @@ use Rattle.special_function.proofs.normal_distribution.inverse_norm_cdf_for_low_
 use Rattle.special_function.proofs.normal_distribution.inverse_norm_cdf_for_low_probabilities.Tie as tie
 
 -- The tests are those of the branches I to IV. The r that they compare is the definition's.
-r-is : (c : tie.After-sqrt) → c.sqrt.result ≡ sqrt (neg (ln c.before.before.args.p))
-r-is c = cc
+r_is : (c : tie.After-sqrt) → c.sqrt.result ≡ sqrt (neg (ln c.before.before.args.p))
+r_is c = cc
 
 returns : tie.Need-returns
 unfolding inverse_norm_cdf_for_low_probabilities
 returns c =
     let at-arguments = c.before.before in
     let at-I = at-arguments.before in
-    rw (← r-is at-I.before, at-I.if1.true, c.rational.ensures)
+    rw (← r_is at-I.before, at-I.if1.true, c.rational.ensures)
 
 returns-2 : tie.Need-returns-2
 unfolding inverse_norm_cdf_for_low_probabilities
@@ -26,7 +26,7 @@ returns-2 c =
     let at-arguments = c.before.before in
     let at-II = at-arguments.before in
     let at-I = at-II.before in
-    rw (← r-is at-I.before, at-I.if1.false, at-II.if2.true, c.rational2.ensures)
+    rw (← r_is at-I.before, at-I.if1.false, at-II.if2.true, c.rational2.ensures)
 
 returns-3 : tie.Need-returns-3
 unfolding inverse_norm_cdf_for_low_probabilities
@@ -35,7 +35,7 @@ returns-3 c =
     let at-III = at-arguments.before in
     let at-II = at-III.before in
     let at-I = at-II.before in
-    rw (← r-is at-I.before, at-I.if1.false, at-II.if2.false, at-III.if3.true, c.rational3.ensures)
+    rw (← r_is at-I.before, at-I.if1.false, at-II.if2.false, at-III.if3.true, c.rational3.ensures)
 
 returns-4 : tie.Need-returns-4
 unfolding inverse_norm_cdf_for_low_probabilities
@@ -45,7 +45,7 @@ returns-4 c =
     let at-III = at-IV.before in
     let at-II = at-III.before in
     let at-I = at-II.before in
-    rw (← r-is at-I.before, at-I.if1.false, at-II.if2.false, at-III.if3.false, at-IV.if4.true, c.rational4.ensures)
+    rw (← r_is at-I.before, at-I.if1.false, at-II.if2.false, at-III.if3.false, at-IV.if4.true, c.rational4.ensures)
 
 returns-5 : tie.Need-returns-5
 unfolding inverse_norm_cdf_for_low_probabilities
@@ -55,7 +55,7 @@ returns-5 c =
     let at-III = at-IV.before in
     let at-II = at-III.before in
     let at-I = at-II.before in
-    rw (← r-is at-I.before, at-I.if1.false, at-II.if2.false, at-III.if3.false, at-IV.if4.false, c.rational5.ensures)
+    rw (← r_is at-I.before, at-I.if1.false, at-II.if2.false, at-III.if3.false, at-IV.if4.false, c.rational5.ensures)
 
 pub inverse-norm-cdf-for-low-probabilities-spec : {M : Type 1} → statement M
 inverse-norm-cdf-for-low-probabilities-spec =

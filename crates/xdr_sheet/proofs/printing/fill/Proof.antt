@@ -3,7 +3,7 @@
 use mathlib.Core.Path.{sym, ◌∙◌}
 use native.Mathlib.Omega.{arith}
 use Rattle.xdr_sheet.specs.Printing.{left}
-use Rattle.xdr_sheet.proofs.Fill.{Sofar, nothing_yet, all_lines, one_line, no_line, same_back, line-falls}
+use Rattle.xdr_sheet.proofs.Fill.{Sofar, nothing_yet, all_lines, one_line, no_line, same_back, line_falls}
 use borrow.Author.Rules.{rules}
 use Rattle.xdr_sheet.proofs.printing.fill.Statement.{statement}
 use Rattle.xdr_sheet.proofs.printing.fill.Tie as tie
@@ -62,7 +62,7 @@ loop-less : tie.Need-loop-smaller invariant-loop decreases-loop
 loop-less c =
     let has_room = c.before in
     let w = at_place has_room.before.before in
-    line-falls (head w).loop.inv (at-tally w).next.given.1 (at-line w).next-line.ensures
+    line_falls (head w).loop.inv (at-tally w).next.given.1 (at-line w).next-line.ensures
 
 pub fill_spec : {M : Type 1} → statement M
 fill_spec =

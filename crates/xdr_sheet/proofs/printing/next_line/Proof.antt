@@ -3,8 +3,8 @@ use mathlib.Core.Path.{◌≡◌, sym, ap, ◌∙◌}
 use Rattle.xdr_sheet.specs.Tally.{tally_count}
 use Rattle.xdr_sheet.specs.Sheet.{quotes, size, sheet_reply}
 use Rattle.xdr_sheet.specs.Replies.{view_size, view_sheet_reply}
-use Rattle.xdr_sheet.specs.Laws.Sheet.{quote-below}
-use Rattle.xdr_sheet.specs.Laws.Printing.{step-refused, step-last, step-quote}
+use Rattle.xdr_sheet.specs.Laws.Sheet.{quote_below}
+use Rattle.xdr_sheet.specs.Laws.Printing.{step_refused, step_last, step_quote}
 use borrow.Author.Rules.{rules}
 use Rattle.xdr_sheet.proofs.printing.next_line.Statement.{statement}
 use Rattle.xdr_sheet.proofs.printing.next_line.Tie as tie
@@ -30,21 +30,21 @@ quote-line-requires : tie.Need-quote-line-requires
 quote-line-requires c κs =
     let has-quote = c.before in
     let at-reply = has-quote.before.before in
-    quote-below _ _ _ (accepted (has-quotes at-reply)) _ (sym (ap view_sheet_reply has-quote.reply2.given.1) ∙ replies at-reply)
+    quote_below _ _ _ (accepted (has-quotes at-reply)) _ (sym (ap view_sheet_reply has-quote.reply2.given.1) ∙ replies at-reply)
 
 returns : tie.Need-returns
 returns c =
     let has-quote = c.before.before in
     let at-reply = has-quote.before.before in
     c.quote-line.ensures
-    ∙ step-quote _ _ _ _ (accepted (has-quotes at-reply)) (sym (ap view_sheet_reply has-quote.reply2.given.1) ∙ replies at-reply)
+    ∙ step_quote _ _ _ _ (accepted (has-quotes at-reply)) (sym (ap view_sheet_reply has-quote.reply2.given.1) ∙ replies at-reply)
 
 returns-2 : tie.Need-returns-2
 returns-2 c =
     let past-last = c.before in
     let at-reply = past-last.before.before in
     rw c.closing-line.ensures
-    (step-last _ _ _ (accepted (has-quotes at-reply)) (sym (ap view_sheet_reply past-last.enum-told2.given.1) ∙ replies at-reply))
+    (step_last _ _ _ (accepted (has-quotes at-reply)) (sym (ap view_sheet_reply past-last.enum-told2.given.1) ∙ replies at-reply))
 
 returns-3 : tie.Need-returns-3
 returns-3 c =
@@ -52,7 +52,7 @@ returns-3 c =
     let at_size = is-refused.before.before in
     let start = entry at_size in
     rw c.refused-line.ensures
-    (step-refused start.args.sheet.now start.args.tally _ _
+    (step_refused start.args.sheet.now start.args.tally _ _
     (sym (ap view_size is-refused.number.given.1) ∙ at_size.quotes-in.ensures))
 
 pub next-line-spec : {M : Type 1} → statement M

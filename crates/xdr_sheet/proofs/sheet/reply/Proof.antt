@@ -2,7 +2,7 @@
 use mathlib.Core.Path.{◌≡◌, sym, ap, ◌∙◌}
 use Rattle.xdr_sheet.specs.Sheet.{quotes, size, replied}
 use Rattle.xdr_sheet.specs.Replies.{view_size}
-use Rattle.xdr_sheet.specs.Laws.Sheet.{quote-within, quote-there, quote-past, quote_none}
+use Rattle.xdr_sheet.specs.Laws.Sheet.{quote_within, quote_there, quote_past, quote_none}
 use borrow.Author.Rules.{rules}
 use Rattle.xdr_sheet.proofs.sheet.reply.Statement.{statement}
 use Rattle.xdr_sheet.proofs.sheet.reply.Tie as tie
@@ -20,18 +20,18 @@ accepted q = sym (ap view_size q.count.given.1) ∙ (sized q).quotes-in.ensures
 quote-requires : tie.Need-quote-requires
 quote-requires c κs =
     let has-quotes = c.before.before in
-    quote-within _ _ (entry (sized has-quotes)).args.index (accepted has-quotes) c.if1.true
+    quote_within _ _ (entry (sized has-quotes)).args.index (accepted has-quotes) c.if1.true
 
 returns : tie.Need-returns
 returns c =
     let below = c.before in
     let has-quotes = below.before.before in
-    ap replied c.quote.ensures ∙ quote-there _ _ (entry (sized has-quotes)).args.index (accepted has-quotes) below.if1.true
+    ap replied c.quote.ensures ∙ quote_there _ _ (entry (sized has-quotes)).args.index (accepted has-quotes) below.if1.true
 
 returns-2 : tie.Need-returns-2
 returns-2 c =
     let has-quotes = c.before.before in
-    quote-past _ _ (entry (sized has-quotes)).args.index (accepted has-quotes) c.if1.false
+    quote_past _ _ (entry (sized has-quotes)).args.index (accepted has-quotes) c.if1.false
 
 returns-3 : tie.Need-returns-3
 returns-3 c =

@@ -3,7 +3,7 @@ use mathlib.Core.Path.{◌≡◌, refl, ap, ◌∙◌}
 use Prim.Native.Nat.{◌≤◌, ◌-◌}
 use native.Mathlib.Omega.{arith}
 use lib.ListN.{length}
-use Rattle.arithmetic.specs.Laws.Slices.{written, write-next, written-length}
+use Rattle.arithmetic.specs.Laws.Slices.{written, write_next, written_length}
 use Rattle.xdr_sheet.proofs.text.copy.Statement.{statement}
 use Rattle.xdr_sheet.proofs.text.copy.Tie as tie
 
@@ -17,7 +17,7 @@ decreases-loop count out₀ bytes i₀ out i = count - i
 kept : (l : tie.At-loop invariant-loop decreases-loop) → length l.loop.out ≡ length l.before.args.out.now
 kept l =
     let a = l.before.args in
-    ap length l.loop.invariant.1 ∙ written-length a.t1 a.out.now l.loop.i (omega (arith, l.before.well-formed)) (omega arith)
+    ap length l.loop.invariant.1 ∙ written_length a.t1 a.out.now l.loop.i (omega (arith, l.before.well-formed)) (omega arith)
 
 loop-holds : tie.Need-loop-init invariant-loop decreases-loop
 loop-holds c = (omega arith, refl)
@@ -29,7 +29,7 @@ loop-again : tie.Need-loop-preserved invariant-loop decreases-loop
 loop-again c =
     let l = c.before in
     let a = l.before.args in
-    (omega arith, rw l.loop.invariant.1 (write-next a.t1 a.out.now l.loop.i 0 (omega (arith, l.before.well-formed)) (omega arith)))
+    (omega arith, rw l.loop.invariant.1 (write_next a.t1 a.out.now l.loop.i 0 (omega (arith, l.before.well-formed)) (omega arith)))
 
 same_length : tie.Need-same-length invariant-loop decreases-loop
 same_length c = kept c.before

@@ -1,6 +1,6 @@
 -- `tally::Tally::with` meets its contract: by the kind of the reply, and of an answer by its volatility. Assumes nothing.
 use mathlib.Core.Path.{sym, ◌∙◌}
-use Rattle.xdr_sheet.specs.Laws.Tally.{infinite-counted, finite-counted}
+use Rattle.xdr_sheet.specs.Laws.Tally.{infinite_counted, finite_counted}
 use borrow.Author.Rules.{rules}
 use Rattle.xdr_sheet.proofs.tally.Tally.with.Statement.{statement}
 use Rattle.xdr_sheet.proofs.tally.Tally.with.Tie as tie
@@ -13,7 +13,7 @@ returns c =
     let figures = answered.reply.given.0 in
     rw answered.reply.given.1
     (c.with-infinite.ensures
-    ∙ infinite-counted _ figures.0 figures.1.0 figures.1.1.0 (sym infinite.if1.true ∙ tested.is-infinite.ensures))
+    ∙ infinite_counted _ figures.0 figures.1.0 figures.1.1.0 (sym infinite.if1.true ∙ tested.is-infinite.ensures))
 
 returns-2 : tie.Need-returns-2
 returns-2 c =
@@ -23,7 +23,7 @@ returns-2 c =
     let figures = answered.reply.given.0 in
     rw answered.reply.given.1
     (c.with-finite.ensures
-    ∙ finite-counted _ figures.0 figures.1.0 figures.1.1.0 (sym finite.if1.false ∙ tested.is-infinite.ensures))
+    ∙ finite_counted _ figures.0 figures.1.0 figures.1.1.0 (sym finite.if1.false ∙ tested.is-infinite.ensures))
 
 returns-3 : tie.Need-returns-3
 returns-3 c = rw c.before.enum_told.given.1 c.with-refusal.ensures

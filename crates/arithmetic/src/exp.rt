@@ -80,8 +80,8 @@ fn reduced(x: f64, k: f64) -> f64
 
 // 2^(e - 1075), which is subnormal for an e below 53.
 fn power(e: u64) -> f64
-    requires fact_1 { 0 < e }
-    requires fact_2 { e < 2099 }
+    requires positive { 0 < e }
+    requires below_overflow { e < 2099 }
     ensures { HasValue result false (2 ^ e) (2 ^ 1075) }
 {
     if e < PRECISION {
@@ -176,8 +176,8 @@ fn is_clear_of_tie(x: f64) -> bool
 
 // e^x of an x in the fast range and clear of a tie: k and the pattern of 2^k come from the sum with SHIFT.
 fn fast(x: f64) -> f64
-    requires fact_1 { T (in_fast_range x) }
-    requires fact_2 { T (clear_of_tie x) }
+    requires in_range { T (in_fast_range x) }
+    requires no_tie { T (clear_of_tie x) }
     ensures { result ≡ exp x }
 {
     let t = x * INVLN2 + SHIFT;

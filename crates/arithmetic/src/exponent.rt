@@ -7,9 +7,9 @@ use super::format::{EXPONENT_FIELD, FRACTION_DIGITS};
 
 // The exponent of the product of 2^a and 2^b.
 pub(crate) fn sum(a: i16, b: i16) -> i16
-    requires fact_1 { InRange a }
-    requires fact_2 { InRange b }
-    requires fact_3 { InRange (a +ℤ b) }
+    requires a_in_range { InRange a }
+    requires b_in_range { InRange b }
+    requires sum_in_range { InRange (a +ℤ b) }
     ensures { (result ≡ a +ℤ b) × InRange result }
 {
     a + b
@@ -17,9 +17,9 @@ pub(crate) fn sum(a: i16, b: i16) -> i16
 
 // The exponent n digits above a.
 pub(crate) fn raised(a: i16, n: u64) -> i16
-    requires fact_1 { InRange a }
-    requires fact_2 { InRange (pos n) }
-    requires fact_3 { InRange (a +ℤ pos n) }
+    requires a_in_range { InRange a }
+    requires n_in_range { InRange (pos n) }
+    requires sum_in_range { InRange (a +ℤ pos n) }
     ensures { (result ≡ a +ℤ pos n) × InRange result }
 {
     a + (n as i16)
@@ -27,9 +27,9 @@ pub(crate) fn raised(a: i16, n: u64) -> i16
 
 // The exponent n digits below a.
 pub(crate) fn lowered(a: i16, n: u64) -> i16
-    requires fact_1 { InRange a }
-    requires fact_2 { InRange (pos n) }
-    requires fact_3 { InRange (a -ℤ pos n) }
+    requires a_in_range { InRange a }
+    requires n_in_range { InRange (pos n) }
+    requires difference_in_range { InRange (a -ℤ pos n) }
     ensures { (result ≡ a -ℤ pos n) × InRange result }
 {
     a - (n as i16)
@@ -37,10 +37,10 @@ pub(crate) fn lowered(a: i16, n: u64) -> i16
 
 // How many digits a lies above b: the difference, taken in 16 bits and then widened.
 pub(crate) fn distance(a: i16, b: i16) -> u64
-    requires fact_1 { InRange a }
-    requires fact_2 { InRange b }
-    requires fact_3 { InRange (a -ℤ b) }
-    requires fact_4 { b ≤ℤ a }
+    requires a_in_range { InRange a }
+    requires b_in_range { InRange b }
+    requires difference_in_range { InRange (a -ℤ b) }
+    requires not_above { b ≤ℤ a }
     ensures { (pos result ≡ a -ℤ b) × InRange (pos result) }
 {
     (a - b) as u64

@@ -188,9 +188,9 @@ fn with_sign(negative: bool, magnitude: u64) -> f64
 // m / 4 * 2^k, rounded to a whole number times 2^k, or to an infinity. How far k lies above LEAST_EXPONENT is the
 // exponent's field less 1, which the leading digit of a normal value adds; a carry out of the significand goes there too.
 fn pack(negative: bool, m: u64, k: i16) -> f64
-    requires fact_1 { m < 2 ^ 55 }
-    requires fact_2 { KeptExponent k }
-    requires fact_3 { (0 < above 1074 k → 2 ^ 54 ≤ m) }
+    requires small_m { m < 2 ^ 55 }
+    requires kept { KeptExponent k }
+    requires normal { (0 < above 1074 k → 2 ^ 54 ≤ m) }
     ensures { result ≡ Ieee.units binary64 negative (closest m 4) (above 1074 k) }
 {
     let magnitude = (exponent::distance(k, LEAST_EXPONENT) << FRACTION_DIGITS) + round_guarded(m);
@@ -219,9 +219,9 @@ fn both(s: bool, t: bool) -> bool
 
 // The sum of two terms with their signs, rounded.
 fn sum_terms(s: bool, t: bool, w: Terms) -> f64
-    requires fact_1 { val w.a < 2 ^ 127 }
-    requires fact_2 { val w.b < 2 ^ 127 }
-    requires fact_3 { TermExponent w.e }
+    requires small_a { val w.a < 2 ^ 127 }
+    requires small_b { val w.b < 2 ^ 127 }
+    requires exponent_in_range { TermExponent w.e }
     ensures { result ≡ Ieee.sum binary64 s (val w.a * 2 ^ above 2148 w.e) t (val w.b * 2 ^ above 2148 w.e) (2 ^ 2148) }
 {
     let a = w.a;

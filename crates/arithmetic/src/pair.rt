@@ -71,8 +71,8 @@ pub(crate) fn less(a: Pair, b: Pair) -> bool
 
 // The product of two numbers of 53 bits.
 pub(crate) fn product(u: u64, v: u64) -> Pair
-    requires fact_1 { u < 2 ^ 53 }
-    requires fact_2 { v < 2 ^ 53 }
+    requires small_u { u < 2 ^ 53 }
+    requires small_v { v < 2 ^ 53 }
     ensures { val result ≡ u * v }
 {
     let u1 = u >> HALF_WORD;
@@ -103,8 +103,8 @@ pub(crate) fn high(u: u64, v: u64) -> u64
 
 // a * 2^d, which fits, for d below 128.
 pub(crate) fn up(a: Pair, d: u64) -> Pair
-    requires fact_1 { d < 128 }
-    requires fact_2 { val a * 2 ^ d < 2 ^ 128 }
+    requires small_shift { d < 128 }
+    requires fits { val a * 2 ^ d < 2 ^ 128 }
     ensures { val result ≡ val a * 2 ^ d }
 {
     if d == 0 {

@@ -4,8 +4,8 @@ ghost use Rattle.std.specs.Prelude.{◌≡◌, ◌≤◌, ◌<◌};
 ghost use Rattle.special_function.specs.Internal.PowerTable.{power_at};
 
 pub(crate) fn power_at(j: u64) -> f64
-    requires fact_1 { 7 ≤ j }
-    requires fact_2 { j < 44 }
+    requires at_least_7 { 7 ≤ j }
+    requires below_44 { j < 44 }
     ensures { result ≡ power_at j }
 {
     match j {

@@ -56,7 +56,7 @@ const REFUSED_STATUS: u32 = DONE + REFUSED + INTERRUPT;
 // Its field is private: no other code makes a window of bytes of its own, or changes some of its bytes. So in Rattle a window is one that
 // writes from zeros leave; C may lend any 64 bytes.
 #[repr(C)]
-#[derive(Drop)]
+#[derive(Clone, Copy)]
 pub struct Window {
     bytes: [u8; WINDOW_BYTES],
 }

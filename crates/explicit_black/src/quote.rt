@@ -41,7 +41,7 @@ pub enum Solved {
 }
 
 // What an entry hands back: an answer, or the number of a refusal, each with how many evaluations were made.
-#[derive(Drop)]
+#[derive(Clone, Copy)]
 pub enum Reply {
     Answer {
         total: f64,

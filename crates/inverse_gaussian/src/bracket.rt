@@ -16,7 +16,7 @@ use arithmetic::ln::ln;
 // 32 times f64::EPSILON
 pub(crate) const QUANTILE_BRACKET_TOLERANCE: f64 = 7.105427357601002e-15;
 
-#[derive(Drop)]
+#[derive(Clone, Copy)]
 pub struct Bracket {
     pub lower: f64,
     pub upper: f64,

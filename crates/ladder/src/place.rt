@@ -29,7 +29,7 @@ pub struct Place {
 }
 
 // What the places of a ladder share, and the roots that are taken once.
-#[derive(Drop)]
+#[derive(Clone, Copy)]
 pub struct Shared {
     side: u32,
     forward: f64,

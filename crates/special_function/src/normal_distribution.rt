@@ -48,7 +48,7 @@ pub fn norm_pdf_of_square(a: f64, exponential: f64) -> f64
 
 // The variables of the loop that sums the asymptotic expansion of `norm_cdf`, by the source's names: the sum; the product g
 // of the factors so far; the counter i, which goes by four from 4; and the magnitude a of what the last iteration took off.
-#[derive(Drop)]
+#[derive(Clone, Copy)]
 struct Expansion {
     pub sum: f64,
     pub g: f64,

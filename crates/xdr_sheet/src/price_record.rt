@@ -25,7 +25,7 @@ pub fn price_reply(s: &[u8]) -> PriceReply
 }
 
 // The number of a record. Its field is private, so that no other code makes one but by `first` and `after`.
-#[derive(Drop)]
+#[derive(Clone, Copy)]
 pub struct RecordNumber {
     number: u64,
 }

@@ -7,7 +7,7 @@ ghost use Rattle.xdr_sheet.specs.Tally.{empty_tally, with_finite, with_infinite,
 use arithmetic::basic::is_infinite;
 use explicit_black::quote::Reply;
 
-#[derive(Drop)]
+#[derive(Clone, Copy)]
 pub struct Tally {
     pub finite: u32,
     pub infinite: u32,

@@ -18,7 +18,7 @@ const DECIMAL_DIGITS: usize = 20;
 const HEXADECIMAL_DIGITS: usize = 16;
 
 // Its text is the first `length` of the bytes; those after it are no part of the line, whatever they are.
-#[derive(Drop)]
+#[derive(Clone, Copy)]
 pub struct Line {
     pub bytes: [u8; LINE_BYTES],
     pub length: usize,

@@ -6,12 +6,10 @@ use native.Mathlib.Omega.{arith}
 use lib.ListN.{length, get_or, take, drop}
 use lib.Seq.{take_all}
 use lib.Ieee.{Float, nan}
-use borrow.Author.Rules.{rules}
 use Rattle.arithmetic.specs.Operations.{plus_zero}
 use Rattle.special_function.specs.Polynomial.{evaluate, nested}
 use Rattle.special_function.specs.Laws.Polynomial.{nested_chain}
-use Rattle.special_function.proofs.polynomial.nested.Statement.{statement}
-use Rattle.special_function.proofs.polynomial.nested.Tie as tie
+use Rattle.special_function.proofs.polynomial.nested.Goals as goal
 
 none : (z : Float) (cs : List Float) → length cs ≡ 0 → plus_zero ≡ nested z cs
 unfolding nested
@@ -29,16 +27,8 @@ some z [] h = absurd (nothing h)
     nothing h = omega arith
 some z (c ∷ cs) h = ap (λ (l : List Float). evaluate c l z) (take_all (suc (length cs) - 1) cs (omega arith)) ∙ sym (nested_chain z c cs)
 
-returns : tie.Need-returns
-returns c = none _ _ c.if1.true
+pub returns-then-coefficients-eq0 : goal.returns-then-coefficients-eq0
+returns-then-coefficients-eq0 c = none _ _ c.if-coefficients-eq0.true
 
-returns-2 : tie.Need-returns-2
-returns-2 c =
-    let after-index = c.before.before in
-    let at_test = after-index.before in
-    let start = at_test.before.before in
-    c.evaluate.ensures ∙ some _ start.args.coefficients.now (omega arith)
-
-pub nested_spec : {M : Type 1} → statement M
-nested_spec = tie.close (tie.spec returns (λ c. search rules) (λ c. search rules) (λ c. search rules) (λ c. search rules) (λ c κs. tt)
-    returns-2)
+pub returns : goal.returns
+returns c = c.evaluate.ensures ∙ some _ c.args.coefficients.now (omega arith)

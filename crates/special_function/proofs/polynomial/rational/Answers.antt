@@ -4,18 +4,14 @@ use mathlib.Core.Bool.{true}
 use lib.Ieee.{Float, div, ne}
 use Rattle.arithmetic.specs.Operations.{◌⊘◌}
 use Rattle.arithmetic.specs.Laws.Signs.{is_nan_lem}
-use Rattle.special_function.proofs.polynomial.rational.Statement.{statement}
-use Rattle.special_function.proofs.polynomial.rational.Tie as tie
+use Rattle.special_function.proofs.polynomial.rational.Goals as goal
 
 nan_over : (x n d : Float) → ne x x ≡ true → x ≡ n → x ≡ n ⊘ d
 unfolding div
 nan_over x n d h e = is_nan_lem x h ∙ sym (ap (λ (z : Float). z ⊘ d) (sym e ∙ is_nan_lem x h))
 
-returns : tie.Need-returns
-returns c = nan_over _ _ _ c.if1.true c.before.nested.ensures
+pub returns-then-above : goal.returns-then-above
+returns-then-above c = nan_over _ _ _ c.if-above.true c.nested-above.ensures
 
-returns-2 : tie.Need-returns-2
-returns-2 c = rw (c.nested2.ensures, c.before.before.nested.ensures)
-
-pub rational-spec : {M : Type 1} → statement M
-rational-spec = tie.close (tie.spec (λ c κs. tt) returns (λ c κs. tt) returns-2)
+pub returns : goal.returns
+returns c = rw (c.nested.ensures, c.nested-above.ensures)

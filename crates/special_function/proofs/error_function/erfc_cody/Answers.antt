@@ -1,0 +1,15 @@
+-- `error_function::erfc_cody` meets its contract: the tests that led to each return pick the definition's case. Assumes nothing.
+use Rattle.special_function.specs.ErrorFunction.{erfc_cody}
+use Rattle.special_function.proofs.error_function.erfc_cody.Goals as goal
+
+pub returns-then-y : goal.returns-then-y
+unfolding erfc_cody
+returns-then-y c = rw (← c.abs-y.ensures, c.if-y.true) cc
+
+pub returns-then-x : goal.returns-then-x
+unfolding erfc_cody
+returns-then-x c = rw (← c.abs-y.ensures, c.if-y.false, c.if-x.true) cc
+
+pub returns-else-x : goal.returns-else-x
+unfolding erfc_cody
+returns-else-x c = rw (← c.abs-y.ensures, c.if-y.false, c.if-x.false) cc

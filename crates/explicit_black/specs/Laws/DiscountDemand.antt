@@ -243,13 +243,25 @@ pub prices_not_scaled : Exactly (pos 1) (bits call_discounted) (bits put_discoun
 unfolding of_bits
 prices_not_scaled e = absurd (eq→eqb e.fraction)
 
+call_divided : bits call_discounted ⊘ bits factor_bits ≡ bits 0x3FF0_158E_D230_8159
+unfolding div of_bits
+call_divided = refl
+
+put_divided : bits put_discounted ⊘ bits factor_bits ≡ bits 0x4010_158E_D230_8159
+unfolding div of_bits
+put_divided = refl
+
+divided_four_times : Exactly (pos 1) (bits 0x3FF0_158E_D230_8159) (bits 0x4010_158E_D230_8159)
+unfolding of_bits
+divided_four_times = four_times (bits 0x3FF0_158E_D230_8159) (bits 0x4010_158E_D230_8159) tt tt refl refl
+
 pub discounted_call_and_put_agree : discounted_at_bits 1 put_discounted put_forward put_strike time_one factor_bits
     ≡ discounted_at_bits 0 call_discounted call_forward call_strike time_one factor_bits
 unfolding div lt le eq of_bits
 discounted_call_and_put_agree =
     ((discounted_agree (pos 1) call_discounted call_forward call_strike time_one factor_bits put_discounted put_forward put_strike time_one factor_bits
     (inr (tt, tt, tt, tt)) tt (comparable _ _ _ tt tt comparable_call.pair) (comparable _ _ _ tt tt comparable_put.pair)
-    (four_times (bits call_discounted ⊘ bits factor_bits) (bits put_discounted ⊘ bits factor_bits) tt tt refl refl)).other_side
+    (rw (call_divided, put_divided) divided_four_times)).other_side
     (four_times (bits call_strike) (bits put_forward) tt tt refl refl)
     (four_times (bits call_forward) (bits put_strike) tt tt refl refl)
     ).0

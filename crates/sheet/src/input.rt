@@ -1,49 +1,32 @@
 // Standard input, to its end or as much of it as a buffer holds.
-ghost use Rattle.std.specs.Prelude.{◌≤◌, length};
+ghost use Rattle.std.specs.Prelude.{◌≤◌, length, IfOk};
 ghost use Rattle.xdr_sheet.specs.Sheet.{input_bytes};
 
-// How many bytes were read, or that a read failed.
-#[derive(Drop)]
-pub struct Input {
-    pub count: usize,
-    pub failed: bool,
-}
+use std::io;
+use std::io::Read;
 
 // One read, which gives no byte at the end of the input.
-fn read_some(part: &mut [u8]) -> Input
-    ensures { result.count ≤ length part.new }
+fn read_some(input: &mut impl Read, part: &mut [u8]) -> io::Result<usize>
+    ensures { IfOk result (λ count. count ≤ length part.new) }
 {
-    let got = libc::read(libc::STDIN_FILENO, part);
-    Input {
-        count: io::count(got, part),
-        failed: got < 0,
-    }
+    input.read(part)
 }
 
-// The buffer holds more than any sheet, so that what it cannot hold changes nothing.
-pub fn read_sheet(buffer: &mut [u8]) -> Input
+// How many bytes were read. The buffer holds more than any sheet, so that what it cannot hold changes nothing.
+pub fn read_sheet(input: &mut impl Read, buffer: &mut [u8]) -> io::Result<usize>
     requires { input_bytes ≤ length buffer.old }
-    ensures { result.count ≤ length buffer.new }
+    ensures { IfOk result (λ count. count ≤ length buffer.new) }
 {
     let mut count: usize = 0;
-    while count < buffer.len() {
-        let some = read_some(&mut buffer[count..]);
-        if some.failed {
-            return Input {
-                count: 0,
-                failed: true,
-            };
+    for _ in 0..buffer.len() {
+        if count >= buffer.len() {
+            break;
         }
-        if some.count == 0 {
-            return Input {
-                count: count,
-                failed: false,
-            };
+        let some = read_some(input, &mut buffer[count..])?;
+        if some == 0 {
+            break;
         }
-        count += some.count;
+        count += some;
     }
-    Input {
-        count: count,
-        failed: false,
-    }
+    Ok(count)
 }

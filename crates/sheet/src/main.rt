@@ -1,34 +1,36 @@
 // Reads a sheet of quotes from standard input and prints its answers. A read that fails ends the
-// run before the first line, and a write that fails ends it there.
+// run before the first line, and a write that fails ends it there; the error is reported.
 #![tactic(auto)]
 
 mod input;
 
 use input::read_sheet;
+use std::io;
 use xdr_sheet::printing::{Progress, fill, start};
 use xdr_sheet::sheet::MAX_BYTES;
 
+// How many bytes of text are written at a time, at most.
+const PART_BYTES: usize = 4096;
+
 // Prints the text, part by part.
-fn print(sheet: &[u8]) {
-    let mut out = io::buffer();
+fn print(rt: &impl Print, sheet: &[u8]) -> io::Result<()> {
+    let mut out = [0u8; PART_BYTES];
     let mut progress = start();
-    while let Progress::Tallied(_) = progress {
+    for _ in 0..u64::MAX {
+        let Progress::Tallied(_) = progress else {
+            break;
+        };
         let filled = fill(sheet, progress, &mut out);
         let count = filled.count;
-        if !io::write_all(libc::STDOUT_FILENO, &out[..count]) {
-            return;
-        }
+        rt.write_all(&out[..count])?;
         progress = filled.next;
     }
+    Ok(())
 }
 
-fn main() {
+fn main(rt: HostRuntime) -> io::Result<()> {
     // one byte more, so that longer input is told from the longest sheet
     let mut buffer = [0u8; MAX_BYTES + 1];
-    let input = read_sheet(&mut buffer);
-    if input.failed {
-        return;
-    }
-    let count = input.count;
-    print(&buffer[..count]);
+    let count = read_sheet(&mut rt.stdin(), &mut buffer)?;
+    print(&rt, &buffer[..count])
 }

@@ -1,10 +1,14 @@
 // Windows after lists of writes. Standard input holds lists one after the other, as XDR writes them: an unsigned count, then for each
 // write its offset and its word, both unsigned. Each list starts from a window of zeros. Each write gives a line: what was handed
 // back, and the 16 words of the window after it in hexadecimal digits; then a line with `W` and the words that the list as a whole
-// leaves. A count over 512, and input that ends inside a list, end the run, and so does a read or a write that fails.
+// leaves. A count over 512, and input that ends inside a list, end the run, and so does a read or a write that fails, whose error
+// is reported.
 #![tactic(auto)]
 
 use cable_window::window::{WINDOW_BYTES, Window, after_writes, written};
+use records::read_whole;
+use std::io;
+use std::io::Read;
 use xdr_sheet::xdr::unsigned;
 
 // How many writes a list has at most.
@@ -18,21 +22,21 @@ const WRITE_BYTES: usize = 8;
 const TEXT_BYTES: usize = 145;
 
 // Reads the writes of a list to the first `count` places of the two slices; whether there are so many places and writes.
-fn read_writes(offsets: &mut [u32], words: &mut [u32], count: usize) -> bool {
-    let mut i: usize = 0;
-    while i < count {
+fn read_writes(
+    input: &mut impl Read,
+    offsets: &mut [u32],
+    words: &mut [u32],
+    count: usize,
+) -> io::Result<bool> {
+    for i in 0..count {
         let mut bytes = [0u8; WRITE_BYTES];
-        if i >= offsets.len()
-            || i >= words.len()
-            || io::read_full(libc::STDIN_FILENO, &mut bytes) < WRITE_BYTES
-        {
-            return false;
+        if i >= offsets.len() || i >= words.len() || !read_whole(input, &mut bytes)? {
+            return Ok(false);
         }
         offsets[i] = unsigned(&bytes, 0);
         words[i] = unsigned(&bytes, WORD_BYTES);
-        i += 1;
     }
-    true
+    Ok(true)
 }
 
 // The hexadecimal digit of the lower half of a byte.
@@ -45,66 +49,74 @@ fn digit(byte: u8) -> u8 {
     }
 }
 
-// Writes the words of a window, a space before each, and ends the line; whether that was done.
-fn put_words(window: Window) -> bool {
+// Writes the words of a window, a space before each, and ends the line.
+fn put_words(rt: &impl Print, window: Window) -> io::Result<()> {
     let bytes = window.bytes();
     let mut text = [b' '; TEXT_BYTES];
-    let mut i: usize = 0;
-    while i < WINDOW_BYTES {
+    for i in 0..WINDOW_BYTES {
         let at = i / WORD_BYTES * 9 + 1 + i % WORD_BYTES * 2;
         let byte = bytes[i];
         text[at] = digit(byte / 16);
         text[at + 1] = digit(byte);
-        i += 1;
     }
     text[TEXT_BYTES - 1] = b'\n';
-    io::write_all(libc::STDOUT_FILENO, &text)
+    rt.write_all(&text)
 }
 
-// Writes a line for each write, and one for the list; whether that was done.
-fn answer_writes(offsets: &[u32], words: &[u32]) -> bool {
+// Writes a line for each write, and one for the list.
+fn answer_writes(rt: &impl Print, offsets: &[u32], words: &[u32]) -> io::Result<()> {
     let mut window = Window::zeros();
-    let mut i: usize = 0;
-    while i < offsets.len() && i < words.len() {
+    for i in 0..offsets.len() {
+        if i >= words.len() {
+            break;
+        }
         let reply = written(window, offsets[i], words[i]);
         window = reply.window;
-        if !io::print_decimal(libc::STDOUT_FILENO, reply.number as u64) || !put_words(window) {
-            return false;
-        }
-        i += 1;
+        print!(rt; "{}", reply.number)?;
+        put_words(rt, window)?;
     }
-    io::write_all(libc::STDOUT_FILENO, b"W") && put_words(after_writes(offsets, words))
+    print!(rt; "W")?;
+    put_words(rt, after_writes(offsets, words))
 }
 
-// Answers the first `count` writes; whether there are so many, and that was done.
-fn answer_within(offsets: &[u32], words: &[u32], count: usize) -> bool {
+// Answers the first `count` writes; whether there are so many.
+fn answer_within(
+    rt: &impl Print,
+    offsets: &[u32],
+    words: &[u32],
+    count: usize,
+) -> io::Result<bool> {
     if count > offsets.len() || count > words.len() {
-        return false;
+        return Ok(false);
     }
-    answer_writes(&offsets[..count], &words[..count])
+    answer_writes(rt, &offsets[..count], &words[..count])?;
+    Ok(true)
 }
 
-// Reads a list and writes its lines; whether both were done.
-fn answer_list() -> bool {
+// Reads a list and writes its lines; whether the input holds one more of no more writes than there is room for.
+fn answer_list(rt: &impl Print, input: &mut impl Read) -> io::Result<bool> {
     let mut head = [0u8; WORD_BYTES];
-    if io::read_full(libc::STDIN_FILENO, &mut head) < WORD_BYTES {
-        return false;
+    if !read_whole(input, &mut head)? {
+        return Ok(false);
     }
     let count = unsigned(&head, 0) as usize;
     if count > ROOM {
-        return false;
+        return Ok(false);
     }
     let mut offsets = [0u32; ROOM];
     let mut words = [0u32; ROOM];
-    if !read_writes(&mut offsets, &mut words, count) {
-        return false;
+    if !read_writes(input, &mut offsets, &mut words, count)? {
+        return Ok(false);
     }
-    answer_within(&offsets, &words, count)
+    answer_within(rt, &offsets, &words, count)
 }
 
-fn main() {
-    let mut lists = u64::MAX;
-    while lists > 0 && answer_list() {
-        lists -= 1;
+fn main(rt: HostRuntime) -> io::Result<()> {
+    let mut input = rt.stdin();
+    for _ in 0..u64::MAX {
+        if !answer_list(&rt, &mut input)? {
+            break;
+        }
     }
+    Ok(())
 }

@@ -3,12 +3,15 @@
 // prices. Each ladder gives a line, `L` and how many strike roots were taken or `R` with its refusal and count, and then a line
 // for each place of the longest of the four lent slices: total volatility and volatility by their bits, or `nan`, count and
 // refusal number, or `-` where a slice is shorter. A length over 512, and input that ends inside a ladder, end the run, and so does a read or a
-// write that fails.
+// write that fails, whose error is reported.
 #![tactic(auto)]
 
 mod text;
 
 use ladder::ladder::implied_black_volatility_ladder;
+use records::read_whole;
+use std::io;
+use std::io::Read;
 use text::{write_places, write_reply};
 use xdr_sheet::xdr::{double, unsigned};
 
@@ -35,17 +38,15 @@ const HEAD_BYTES: usize = 44;
 const ROOM: usize = 512;
 
 // Reads doubles into the first `count` places of `out`; whether there are so many places and doubles.
-fn read_doubles(out: &mut [f64], count: usize) -> bool {
-    let mut i: usize = 0;
-    while i < count {
+fn read_doubles(input: &mut impl Read, out: &mut [f64], count: usize) -> io::Result<bool> {
+    for i in 0..count {
         let mut bytes = [0u8; 8];
-        if i >= out.len() || io::read_full(libc::STDIN_FILENO, &mut bytes) < 8 {
-            return false;
+        if i >= out.len() || !read_whole(input, &mut bytes)? {
+            return Ok(false);
         }
         out[i] = double(&bytes, 0);
-        i += 1;
     }
-    true
+    Ok(true)
 }
 
 // The length whose word is at `at`.
@@ -53,8 +54,9 @@ fn length(head: &[u8], at: usize) -> usize {
     unsigned(head, at) as usize
 }
 
-// Solves a ladder and writes its lines; whether that was done.
+// Solves a ladder and writes its lines.
 fn solve(
+    rt: &impl Print,
     head: &[u8],
     strikes: &[f64],
     prices: &[f64],
@@ -62,7 +64,7 @@ fn solve(
     volatilities: &mut [f64],
     counts: &mut [u64],
     refusals: &mut [u32],
-) -> bool {
+) -> io::Result<()> {
     let reply = implied_black_volatility_ladder(
         unsigned(head, 0),
         double(head, FORWARD),
@@ -74,11 +76,13 @@ fn solve(
         counts,
         refusals,
     );
-    write_reply(reply) && write_places(totals, volatilities, counts, refusals)
+    write_reply(rt, reply)?;
+    write_places(rt, totals, volatilities, counts, refusals)
 }
 
-// Solves with the first places of buffers, as many as the head says; whether there are so many, and that was done.
+// Solves with the first places of buffers, as many as the head says; whether there are so many.
 fn solve_within(
+    rt: &impl Print,
     head: &[u8],
     strikes: &[f64],
     prices: &[f64],
@@ -86,23 +90,24 @@ fn solve_within(
     volatilities: &mut [f64],
     counts: &mut [u64],
     refusals: &mut [u32],
-) -> bool {
+) -> io::Result<bool> {
     let k = length(head, STRIKES);
     let p = length(head, PRICES);
     if k > strikes.len() || p > prices.len() {
-        return false;
+        return Ok(false);
     }
     let t = length(head, TOTALS);
     let v = length(head, VOLATILITIES);
     if t > totals.len() || v > volatilities.len() {
-        return false;
+        return Ok(false);
     }
     let c = length(head, COUNTS);
     let r = length(head, REFUSALS);
     if c > counts.len() || r > refusals.len() {
-        return false;
+        return Ok(false);
     }
     solve(
+        rt,
         head,
         &strikes[..k],
         &prices[..p],
@@ -110,27 +115,30 @@ fn solve_within(
         &mut volatilities[..v],
         &mut counts[..c],
         &mut refusals[..r],
-    )
+    )?;
+    Ok(true)
 }
 
-// Reads a ladder and writes its lines; whether both were done. The lent slices hold other values before.
-fn answer_ladder() -> bool {
+// Reads a ladder and writes its lines; whether the input holds one more that the buffers have room for. The lent slices hold
+// other values before.
+fn answer_ladder(rt: &impl Print, input: &mut impl Read) -> io::Result<bool> {
     let mut head = [0u8; HEAD_BYTES];
-    if io::read_full(libc::STDIN_FILENO, &mut head) < HEAD_BYTES {
-        return false;
+    if !read_whole(input, &mut head)? {
+        return Ok(false);
     }
     let mut strikes = [0.0f64; ROOM];
     let mut prices = [0.0f64; ROOM];
     let k = length(&head, STRIKES);
     let p = length(&head, PRICES);
-    if !read_doubles(&mut strikes, k) || !read_doubles(&mut prices, p) {
-        return false;
+    if !read_doubles(input, &mut strikes, k)? || !read_doubles(input, &mut prices, p)? {
+        return Ok(false);
     }
     let mut totals = [-1.0f64; ROOM];
     let mut volatilities = [-2.0f64; ROOM];
     let mut counts = [u64::MAX; ROOM];
     let mut refusals = [u32::MAX; ROOM];
     solve_within(
+        rt,
         &head,
         &strikes,
         &prices,
@@ -141,9 +149,12 @@ fn answer_ladder() -> bool {
     )
 }
 
-fn main() {
-    let mut ladders = u64::MAX;
-    while ladders > 0 && answer_ladder() {
-        ladders -= 1;
+fn main(rt: HostRuntime) -> io::Result<()> {
+    let mut input = rt.stdin();
+    for _ in 0..u64::MAX {
+        if !answer_ladder(&rt, &mut input)? {
+            break;
+        }
     }
+    Ok(())
 }

@@ -1,7 +1,8 @@
 // Runs one function of the layers, or the normalised entry, on given bits. Standard input holds records of 28 bytes: the
 // function's number and three doubles, as XDR writes them. Each record gives a line: the 16 digits
 // of the result's bits, or `nan`; for the normalised entry a sheet's line without its number. A number
-// that names no function ends the run.
+// that names no function ends the run, and so does input that ends inside a record, or a read or a write that fails,
+// whose error is reported.
 #![tactic(auto)]
 
 mod text;
@@ -16,8 +17,11 @@ use explicit_black::quote::{Reply, implied_black_volatility_normalised};
 use inverse_gaussian::curves::{
     Allowance, Evaluation, SurvivalEvaluation, inverse_gaussian_cdf, inverse_gaussian_survival,
 };
+use records::read_whole;
 use special_function::error_function::{erf_cody, erfc_cody, erfcx_cody, erfinv};
 use special_function::normal_distribution::{inverse_norm_cdf, norm_cdf, norm_pdf};
+use std::io;
+use std::io::Read;
 use text::{write_line, write_reply};
 use xdr_sheet::xdr::{double, unsigned};
 
@@ -124,22 +128,26 @@ fn evaluate(record: &[u8]) -> Outcome {
     explicit_black_of(number, a, b)
 }
 
-// Reads a record and writes its line; whether both were done.
-fn answer_record() -> bool {
+// Reads a record and writes its line; whether the input holds one more that gives a line.
+fn answer_record(rt: &impl Print, input: &mut impl Read) -> io::Result<bool> {
     let mut record = [0u8; RECORD_BYTES];
-    if io::read_full(libc::STDIN_FILENO, &mut record) < RECORD_BYTES {
-        return false;
+    if !read_whole(input, &mut record)? {
+        return Ok(false);
     }
     match evaluate(&record) {
-        Outcome::Number(value) => write_line(value),
-        Outcome::Replied(reply) => write_reply(reply),
-        Outcome::Unknown => false,
+        Outcome::Number(value) => write_line(rt, value)?,
+        Outcome::Replied(reply) => return write_reply(rt, reply),
+        Outcome::Unknown => return Ok(false),
     }
+    Ok(true)
 }
 
-fn main() {
-    let mut records = u64::MAX;
-    while records > 0 && answer_record() {
-        records -= 1;
+fn main(rt: HostRuntime) -> io::Result<()> {
+    let mut input = rt.stdin();
+    for _ in 0..u64::MAX {
+        if !answer_record(&rt, &mut input)? {
+            break;
+        }
     }
+    Ok(())
 }

@@ -1,6 +1,7 @@
 // Values of the error functions as a table prints them. Standard input holds lines of 11 bytes, as
 // `1 00.02 10`: the number of a quantity, its argument, and how many decimals the table has. Each gives
-// a line: the quantity, rounded to so many decimals. A number that names no quantity ends the run.
+// a line: the quantity, rounded to so many decimals. A number that names no quantity ends the run, and so does input
+// that ends inside a line, or a read or a write that fails, whose error is reported.
 //
 // `stdin` and `stdout` are values of Abramowitz and Stegun, Handbook of Mathematical Functions, 1964:
 // table 7.1, erf x; table 7.3, x exp(x^2) erfc x; table 26.2, -log10 Q(x). They were set
@@ -12,8 +13,11 @@ mod text;
 
 use arithmetic::ln::ln;
 use arithmetic::sqrt::sqrt;
+use records::read_whole;
 use special_function::error_function::{erf_cody, erfc_cody, erfcx_cody};
 use special_function::normal_distribution::norm_cdf;
+use std::io;
+use std::io::Read;
 use text::{argument, decimals, number, write_line};
 
 // The logarithm to base 10 of 1 / q.
@@ -36,18 +40,25 @@ fn quantity(number: u64, x: f64) -> f64 {
     }
 }
 
-// Reads a line and writes its value; whether that was done.
-fn answer_line() -> bool {
+// Reads a line and writes its value; whether the input holds one more that has a value.
+fn answer_line(rt: &impl Print, input: &mut impl Read) -> io::Result<bool> {
     let mut line = [0u8; 11];
-    if io::read_full(libc::STDIN_FILENO, &mut line) < 11 {
-        return false;
+    if !read_whole(input, &mut line)? {
+        return Ok(false);
     }
-    write_line(quantity(number(&line), argument(&line)), decimals(&line))
+    write_line(
+        rt,
+        quantity(number(&line), argument(&line)),
+        decimals(&line),
+    )
 }
 
-fn main() {
-    let mut lines = u64::MAX;
-    while lines > 0 && answer_line() {
-        lines -= 1;
+fn main(rt: HostRuntime) -> io::Result<()> {
+    let mut input = rt.stdin();
+    for _ in 0..u64::MAX {
+        if !answer_line(&rt, &mut input)? {
+            break;
+        }
     }
+    Ok(())
 }

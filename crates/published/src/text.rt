@@ -3,6 +3,8 @@ ghost use Rattle.std.specs.Prelude.{◌<◌, ◌≤◌};
 
 use arithmetic::basic::trunc;
 use arithmetic::mul_add::mul_add;
+use io::decimal;
+use std::io::Result;
 
 // The value of a digit; of another byte its low four bits.
 fn digit(byte: u8) -> u64
@@ -60,28 +62,29 @@ fn nearest(x: f64, scale: f64) -> f64 {
 }
 
 // Writes `whole`, a point in place of the first digit of `part`, and its other digits.
-fn write_parts(whole: u64, part: u64) -> bool {
+fn write_parts(rt: &impl Print, whole: u64, part: u64) -> Result<()> {
     let mut digits = [0u8; 20];
-    let count = io::decimal(part, &mut digits);
+    let count = decimal(part, &mut digits);
     digits[0] = b'.';
-    io::print_decimal(libc::STDOUT_FILENO, whole)
-        && io::write_all(libc::STDOUT_FILENO, &digits[..count])
-        && io::write_all(libc::STDOUT_FILENO, b"\n")
+    print!(rt; "{whole}")?;
+    rt.write_all(&digits[..count])?;
+    println!(rt; "")
 }
 
 // Writes a value given in units of the last decimal.
-fn write_units(units: u64, decimals: u64) -> bool {
+fn write_units(rt: &impl Print, units: u64, decimals: u64) -> Result<()> {
     let unit = scale(decimals);
-    write_parts(units / unit, unit + units % unit)
+    write_parts(rt, units / unit, unit + units % unit)
 }
 
-// Writes a value with so many decimals; whether that was done. It is not for a NaN, a value below 0, or one of 2^64 units or more.
-pub fn write_line(value: f64, decimals: u64) -> bool {
+// Writes a value with so many decimals; whether it was. It is not for a NaN, a value below 0, or one of 2^64 units or more.
+pub fn write_line(rt: &impl Print, value: f64, decimals: u64) -> Result<bool> {
     let rounded = nearest(value, std::num::nearest_u64_to_f64(scale(decimals)));
     if rounded > -1.0 {
         if rounded < 18446744073709551616.0 {
-            return write_units(std::num::truncating_f64_to_u64(rounded), decimals);
+            write_units(rt, std::num::truncating_f64_to_u64(rounded), decimals)?;
+            return Ok(true);
         }
     }
-    false
+    Ok(false)
 }

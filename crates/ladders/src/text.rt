@@ -4,7 +4,7 @@ use std::io;
 
 // Writes the 16 hexadecimal digits of a figure's bits, or `nan`.
 fn put_figure(rt: &impl Print, x: f64) -> io::Result<()> {
-    if x != x {
+    if x.is_nan() {
         return print!(rt; "nan");
     }
     print!(rt; "{:016x}", f64::to_bits(x))

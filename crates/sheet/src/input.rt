@@ -24,9 +24,10 @@ pub fn read_sheet(input: &mut impl Read, buffer: &mut [u8]) -> io::Result<usize>
         }
         let some = read_some(input, &mut buffer[count..])?;
         if some == 0 {
-            break;
+            return Ok(count);
         }
         count += some;
     }
-    Ok(count)
+    // each turn read a byte or more
+    Ok(buffer.len())
 }

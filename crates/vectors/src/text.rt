@@ -5,7 +5,7 @@ use xdr_sheet::text::reply_line;
 
 // Writes the 16 hexadecimal digits of a value's bits, or `nan`, and the end of the line.
 pub fn write_line(rt: &impl Print, value: f64) -> io::Result<()> {
-    if value != value {
+    if value.is_nan() {
         return println!(rt; "nan");
     }
     println!(rt; "{:016x}", f64::to_bits(value))

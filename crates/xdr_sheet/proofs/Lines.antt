@@ -1,6 +1,6 @@
 -- Lines that grow, lines put into buffers, and how many digits a number takes. Assumes nothing.
 use mathlib.Core.Path.{◌≡◌, refl, sym, ap, ◌∙◌, subst}
-use mathlib.Core.List.{List, [], ◌∷◌, ◌++◌, map, append_assoc, append-nil}
+use mathlib.Core.List.{List, [], ◌∷◌, ◌++◌, append_assoc, append-nil}
 use Prim.Native.Nat.{ℕ, zero, suc, ◌+◌, ◌-◌, ◌*◌, ◌/◌, ◌^◌, ◌≤◌, ◌<◌}
 use native.Mathlib.Numerals.{add-one}
 use native.Mathlib.Nat.{lt_of_lt_of_le, lt_of_not-le, not-le_of_lt, le_of_suc-le-suc, not-suc-le-zero, lt_irrefl, le_antisymm, le_trans}
@@ -9,7 +9,7 @@ use native.Mathlib.Omega.{arith}
 use borrow.Author.Tests.{lt-leb, le-leb, ltb-true, ltb-false}
 use lib.Dec.{ltb, lit<, lit≤}
 use lib.Ieee.{Float, binary64, to_bits}
-use lib.ListN.{length, take, drop, set, get_or, length-append, length-map}
+use lib.ListN.{length, take, drop, set, get_or, length-append}
 use lib.Seq.{take-suc-set, take-suc, take_all, length-take-le}
 use Rattle.explicit_black.specs.declared.quote.Reply.{Reply as CodeReply}
 use Rattle.explicit_black.specs.declared.quote.Reply.TheVariants.{Answer, Refusal}
@@ -57,18 +57,15 @@ pub whole : (a b : Line) (s : List ℕ) (i : ℕ) → length s ≤ i → Extende
 whole a b s i h e = same_text e (take_all i s h)
 
 -- an array of 80 bytes, read as a list
-eighty : (l : List ℕ) → length (map (λ (v : ℕ). v) l) ≡ 80 → length l ≡ 80
-eighty l e = sym (length-map l (λ (v : ℕ). v)) ∙ e
-
-pub room : (l : List ℕ) {n : ℕ} → length (map (λ (v : ℕ). v) l) ≡ 80 → n < 80 → n < length l
-room l e h = omega (arith, eighty l e)
+pub room : (l : List ℕ) {n : ℕ} → length l ≡ 80 → n < 80 → n < length l
+room l e h = omega (arith, e)
 
 -- as many bytes as `count` says are the text
-pub written_below : (l : Line) → length (map (λ (v : ℕ). v) l.bytes) ≡ 80 → l.length < 80 → l.length ≡ length (written l)
-written_below l e h = sym (length-take-le l.length l.bytes (omega (arith, eighty l.bytes e)))
+pub written_below : (l : Line) → length l.bytes ≡ 80 → l.length < 80 → l.length ≡ length (written l)
+written_below l e h = sym (length-take-le l.length l.bytes (omega (arith, e)))
 
-pub written_above : (l : Line) → length (map (λ (v : ℕ). v) l.bytes) ≡ 80 → 80 ≤ l.length → 80 ≡ length (written l)
-written_above l e h = sym (ap length (take_all l.length l.bytes (omega (arith, eighty l.bytes e))) ∙ eighty l.bytes e)
+pub written_above : (l : Line) → length l.bytes ≡ 80 → 80 ≤ l.length → 80 ≡ length (written l)
+written_above l e h = sym (ap length (take_all l.length l.bytes (omega (arith, e))) ∙ e)
 
 take_written : (l : Line) → take (length (written l)) l.bytes ≡ written l
 take_written l = go l.length l.bytes

@@ -1,4 +1,5 @@
--- Facts about the definitions, each proved: the theorems that are promised of them, and laws that proofs cite.
+-- Facts about the definitions, each proved: the theorems that are promised of them, and laws that proofs cite. Demand 3 and the law of 4 ^ n for prices
+-- follow from them in proofs/.
 pub mod Demand
 pub mod Discount
 pub mod DiscountDemand

@@ -35,22 +35,22 @@ at_entry test t k j k<17 j≤k =
 
 -- ---- the rule
 
-all_follow_rule : T (all_entries follows_rule)
-unfolding all_entries follows_rule
-all_follow_rule = tt
-
 -- the coefficient of e ^ j in ak follows the rule
 pub coefficient_follows_rule : (k j : ℕ) → k < 17 → j ≤ k → T (follows_rule k j)
+unfolding all_entries follows_rule
 coefficient_follows_rule = at_entry follows_rule all_follow_rule
+  where
+    all_follow_rule : T (all_entries follows_rule)
+    all_follow_rule = tt
 
 -- ---- more than REQUIREMENTS 9 asks: each entry is the binary64 nearest to the exact coefficient
 
 abbrev is_nearest : ℕ → ℕ → Bool
 is_nearest k j = eqb (entry k j) (nearest_entry k j)
 
-all_nearest : T (all_entries is_nearest)
-unfolding all_entries entry nearest_entry
-all_nearest = tt
-
 pub entry_is_nearest : (k j : ℕ) → k < 17 → j ≤ k → entry k j ≡ nearest_entry k j
+unfolding all_entries entry nearest_entry
 entry_is_nearest k j k<17 j≤k = eqb→eq (entry k j) (nearest_entry k j) (at_entry is_nearest all_nearest k j k<17 j≤k)
+  where
+    all_nearest : T (all_entries is_nearest)
+    all_nearest = tt

@@ -1,6 +1,6 @@
--- Demand 3 (REQUIREMENTS 2.3): a quote, and one whose figures are exactly 4 ^ n times its figures, on the same side or exchanged, have one total
--- volatility or refusal number, and one count. Assumes nothing.
-use Rattle.std.specs.Prelude.{◌≡◌, ◌⊎◌, ℕ, suc, ◌+◌, ◌*◌, ◌^◌, ◌<◌, Bool, true, false, not, ◌||◌, cond, ℤ, pos, negsuc, T, eqb, ltb, Float}
+-- What demand 3 (REQUIREMENTS 2.3) rests on: the tests, what follows them for figures scaled by 2 ^ (n + n), and `Exactly` as such a scale. Demand 3 itself
+-- follows in proofs/Demand.antt. Assumes nothing.
+use Rattle.std.specs.Prelude.{◌≡◌, ◌||◌, ◌⊎◌, ℕ, suc, ◌+◌, ◌*◌, ◌^◌, ◌<◌, Bool, true, false, not, cond, pos, negsuc, T, eqb, ltb, Float}
 use Rattle.std.proofs.Math.Path.{refl}
 use Rattle.std.proofs.Common.{sym, ap, ◌∙◌, subst, inl, inr, zero-mul, mul-one, mul_assoc, mul_right_comm, mul-pos, lt_irrefl, arith, eqb→eq, ltb→lt, lt→ltb, lit≤}
 use Rattle.std.proofs.Math.Nat.{eq_of_mul-eq-mul_right}
@@ -32,7 +32,7 @@ use Rattle.explicit_black.specs.Demand.{Exactly, ComparablePair, ComparableFigur
 use Rattle.explicit_black.specs.Laws.ScaledPrice.{Plain, from_price_times}
 use Rattle.explicit_black.specs.Laws.Quote.{compared_input}
 use Rattle.explicit_black.specs.Laws.ZeroPrice.{zero_from_price}
-use Rattle.explicit_black.specs.Laws.Powers.{comparable_pair, comparable, four_times}
+use Rattle.explicit_black.specs.Laws.Powers.{comparable_pair, comparable}
 
 -- ---- times: both zero, or both finite and above zero
 
@@ -121,7 +121,7 @@ first_refusal_is side p f k t z P h w =
     go true = refl
     go false = refl
 
-from_quote_is : (side : ℕ) (p f k t : Float) (z : Bool) → T (finite p) → BoundedRatio f k → TimeTested t z
+pub from_quote_is : (side : ℕ) (p f k t : Float) (z : Bool) → T (finite p) → BoundedRatio f k → TimeTested t z
     → from_quote side p f k t ≡ cond (eqb side 0 || eqb side 1) (after_tests (eqb side 0) p f k t) (at_once (refused 1))
 unfolding from_quote
 from_quote_is side p f k t z P h w = rw (first_refusal_is side p f k t z P h w) (go (eqb side 0 || eqb side 1) (after_tests (eqb side 0) p f k t))
@@ -190,10 +190,7 @@ pub normal_times : (k : ℕ) (x y : Float) → PositiveNormal x → Related k x 
 normal_times k x y o (related_times h) = h
 normal_times k x y o (vanish e g) = absurd (lt_irrefl 0 (subst (λ (z : ℕ). 0 < z) e (num_above x o)))
 
--- `Exactly` of normal values above zero as `Times`: upward from x to y, and downward from y to x
-pub exactly_up : (n : ℕ) (x y : Float) → PositiveNormal x → Exactly (pos n) x y → Times (n + n) x y
-exactly_up n x y o h = normal_times (n + n) x y o (upward n x y h)
-
+-- `Exactly` of normal values above zero as `Times`, downward from y to x; upward from x to y in proofs/Demand.antt
 pub exactly_down : (n : ℕ) (x y : Float) → PositiveNormal y → Exactly (negsuc n) x y → Times (suc n + suc n) y x
 exactly_down n x y o h = normal_times (suc n + suc n) y x o (downward n x y h)
 
@@ -270,52 +267,21 @@ module _ (n : ℕ) (f k t f' k' t' : Float) (z : Bool) (h : BoundedRatio f k) (h
         | inr e ↦ both_zero e (zero_times (n + n) p p' g.value e)
       ]
 
--- ---- demand 3 for values of binary64: what follows test 4, then the quotes
-scaled_up : (n : ℕ) (p f k t p' f' k' t' : Float) → ComparableValues p f k → ComparableValues p' f' k' → (z : Bool) → TimeTested t z → TimeTested t' z
+-- ---- demand 3 for values of binary64, upward: what follows test 4
+pub scaled_up : (n : ℕ) (p f k t p' f' k' t' : Float) → ComparableValues p f k → ComparableValues p' f' k' → (z : Bool) → TimeTested t z → TimeTested t' z
     → Related (n + n) p p' → Related (n + n) f f' → Related (n + n) k k' → (call : Bool) → after_tests call p' f' k' t' ≡ after_tests call p f k t
 scaled_up n p f k t p' f' k' t' o o' z w w' hp hf hk call =
     let tf = normal_times (n + n) f f' o.pair.forward hf in
     let tk = normal_times (n + n) k k' o.pair.strike hk in
     any_price n f k t f' k' t' z o.pair o'.pair w w' tf tk call p p' o o' hp
 
-module _ (p f k t p' f' k' t' : Float) (o : ComparableValues p f k) (o' : ComparableValues p' f' k') (w : ComparableTimes t t') where
-  pub same_figures : (n : ℤ) (call : Bool) → Exactly n p p' → Exactly n f f' → Exactly n k k' → after_tests call p' f' k' t' ≡ after_tests call p f k t
-  same_figures (pos n) call hp hf hk =
-      let (z, u, v) = times_tested t t' w in
-      scaled_up n p f k t p' f' k' t' o o' z u v (upward n p p' hp) (upward n f f' hf) (upward n k k' hk) call
-  same_figures (negsuc n) call hp hf hk =
-      let (z, u, v) = times_tested t t' w in
-      sym (scaled_up (suc n) p' f' k' t' p f k t o' o z v u (downward n p p' hp) (downward n f f' hf) (downward n k k' hk) call)
-
-  pub same_outcome : (n : ℤ) (side : ℕ) → Exactly n p p' → Exactly n f f' → Exactly n k k' → from_quote side p' f' k' t' ≡ from_quote side p f k t
-  same_outcome n side hp hf hk =
-      let (z, u, v) = times_tested t t' w in
-      from_quote_is side p' f' k' t' z o'.bounded o'.pair v
-      ∙ ap (λ (c : Counted Outcome). cond (eqb side 0 || eqb side 1) c (at_once (refused 1))) (same_figures n (eqb side 0) hp hf hk)
-      ∙ sym (from_quote_is side p f k t z o.bounded o.pair u)
-
-module _ (p f k t p' f' k' t' : Float) (o : ComparableValues p f k) (o' : ComparableValues p' f' k') (w : ComparableTimes t t') where
-  other_figures : (n : ℤ) (call : Bool) → Exactly n p p' → Exactly n k f' → Exactly n f k' → after_tests (not call) p' f' k' t' ≡ after_tests call p f k t
-  other_figures n call hp hk hf =
-      let pair = swapped f' k' o'.pair in
-      let o'' : ComparableValues p' k' f' = record { held = o'.held; bounded = o'.bounded; not_negative = o'.not_negative; pair = pair } in
-      exchanged call p' f' k' t' o'.pair ∙ same_figures p f k t p' k' f' t' o o'' w n call hp hf hk
-
-  pub other_outcome : (n : ℤ) → Exactly n p p' → Exactly n k f' → Exactly n f k'
-      → (from_quote 1 p' f' k' t' ≡ from_quote 0 p f k t) × (from_quote 0 p' f' k' t' ≡ from_quote 1 p f k t)
-  other_outcome n hp hk hf =
-      let (z, u, v) = times_tested t t' w in (
-        from_quote_is 1 p' f' k' t' z o'.bounded o'.pair v ∙ other_figures n true hp hk hf ∙ sym (from_quote_is 0 p f k t z o.bounded o.pair u),
-        from_quote_is 0 p' f' k' t' z o'.bounded o'.pair v ∙ other_figures n false hp hk hf ∙ sym (from_quote_is 1 p f k t z o.bounded o.pair u),
-      )
-
--- ---- DEMAND 3, for figures of any bits
+-- ---- figures of any bits
 
 -- what is compared of a quote with figures of these bits
 abbrev pub input_at_bits : ℕ → ℕ → ℕ → ℕ → ℕ → Counted Outcome
 input_at_bits side p f k t = compared (implied_black_volatility_input side (bits p) (bits f) (bits k) (bits t))
 
-input_at_bits_is : (side p f k t : ℕ) → input_at_bits side p f k t ≡ from_quote side (bits p) (bits f) (bits k) (bits t)
+pub input_at_bits_is : (side p f k t : ℕ) → input_at_bits side p f k t ≡ from_quote side (bits p) (bits f) (bits k) (bits t)
 input_at_bits_is side p f k t = compared_input side (bits p) (bits f) (bits k) (bits t)
 
 pub comparable_ratio : (f k : ℕ) → ComparablePair (bits f) (bits k) → BoundedRatio (bits f) (bits k)
@@ -328,7 +294,7 @@ comparable_ratio f k h =
       not_under = h.strike_not_over;
     }
 
-comparable_values : (p f k : ℕ) → ComparableFigures (bits p) (bits f) (bits k) → ComparableValues (bits p) (bits f) (bits k)
+pub comparable_values : (p f k : ℕ) → ComparableFigures (bits p) (bits f) (bits k) → ComparableValues (bits p) (bits f) (bits k)
 comparable_values p f k h = record {
   held = of_bits-fits binary64 p;
   bounded = h.price_finite;
@@ -336,30 +302,7 @@ comparable_values p f k h = record {
   pair = comparable_ratio f k h.pair;
 }
 
-module _ (n : ℤ) (p f k t p' f' k' t' : ℕ) (h : ComparableFigures (bits p) (bits f) (bits k)) (h' : ComparableFigures (bits p') (bits f') (bits k'))
-    (w : ComparableTimes (bits t) (bits t')) (e : Exactly n (bits p) (bits p')) where
-  -- The second quote has the first's side, whatever number that is, and its price, forward and strike are exactly 4 ^ n times the first's.
-  pub same_side : (side : ℕ) → Exactly n (bits f) (bits f') → Exactly n (bits k) (bits k') → input_at_bits side p' f' k' t' ≡ input_at_bits side p f k t
-  same_side side g i =
-      let o = comparable_values p f k h in
-      let o' = comparable_values p' f' k' h' in
-      input_at_bits_is side p' f' k' t'
-      ∙ same_outcome (bits p) (bits f) (bits k) (bits t) (bits p') (bits f') (bits k') (bits t') o o' w n side e g i
-      ∙ sym (input_at_bits_is side p f k t)
-
-  -- The first is a call or a put, and the second is on the other side, with price, forward and strike exactly 4 ^ n times the first's price, strike and
-  -- forward.
-  pub other_side : Exactly n (bits k) (bits f') → Exactly n (bits f) (bits k')
-      → (input_at_bits 1 p' f' k' t' ≡ input_at_bits 0 p f k t) × (input_at_bits 0 p' f' k' t' ≡ input_at_bits 1 p f k t)
-  other_side g i =
-      let o = comparable_values p f k h in
-      let o' = comparable_values p' f' k' h' in
-      let q = other_outcome (bits p) (bits f) (bits k) (bits t) (bits p') (bits f') (bits k') (bits t') o o' w n e g i in (
-        input_at_bits_is 1 p' f' k' t' ∙ q.0 ∙ sym (input_at_bits_is 0 p f k t),
-        input_at_bits_is 0 p' f' k' t' ∙ q.1 ∙ sym (input_at_bits_is 1 p f k t),
-      )
-
--- ---- the call 0 1 100 120 1 and the put 1 4 480 400 1 of REQUIREMENTS 12.2 agree: the hypotheses are met
+-- ---- the call 0 1 100 120 1 and the put 1 4 480 400 1 of REQUIREMENTS 12.2 meet the hypotheses
 
 -- the bits of 1, 100 and 120, and of 4, 480 and 400
 abbrev pub call_price : ℕ
@@ -390,13 +333,3 @@ comparable_call = comparable _ _ _ tt tt (comparable_pair _ _ tt tt tt tt (lit�
 pub comparable_put : ComparableFigures (bits put_price) (bits put_forward) (bits put_strike)
 unfolding of_bits le
 comparable_put = comparable _ _ _ tt tt (comparable_pair _ _ tt tt tt tt (lit≤ tt) (lit≤ tt))
-
-pub call_and_put_agree : input_at_bits 1 put_price put_forward put_strike time_one ≡ input_at_bits 0 call_price call_forward call_strike time_one
-unfolding of_bits lt
-call_and_put_agree =
-    (other_side (pos 1) call_price call_forward call_strike time_one put_price put_forward put_strike time_one comparable_call comparable_put
-    (inr (tt, tt, tt, tt))
-    (four_times (bits call_price) (bits put_price) tt tt refl refl)
-    (four_times (bits call_strike) (bits put_forward) tt tt refl refl)
-    (four_times (bits call_forward) (bits put_strike) tt tt refl refl)
-    ).0

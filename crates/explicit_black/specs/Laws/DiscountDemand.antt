@@ -1,7 +1,6 @@
--- Demand 3 for quotes with discount factors (REQUIREMENTS 14.7): a quote, and one whose factor is equal and whose divided price, forward and strike are
--- exactly 4 ^ n times its own, on the same side or exchanged, have one total volatility or refusal number, and one count. So have quotes whose prices
--- themselves are exactly 4 ^ n times each other, where both divided prices are above 2 ^ -1022, or both are 0. And minus zero as price. Assumes nothing.
-use Rattle.std.specs.Prelude.{◌≡◌, ◌⊎◌, ℕ, zero, suc, ◌*◌, ◌<◌, Bool, true, false, cond, ◌||◌, ℤ, pos, negsuc, T, eqb, Float}
+-- What demand 3 for quotes with discount factors (REQUIREMENTS 14.7) rests on: factors that are equal, and quotes whose first refusals are one. And minus zero
+-- as price, and why both divided prices are to be above 2 ^ -1022. Demand 3 itself follows in proofs/DiscountDemand.antt. Assumes nothing.
+use Rattle.std.specs.Prelude.{◌≡◌, ◌||◌, ◌⊎◌, ℕ, zero, suc, ◌*◌, ◌<◌, Bool, true, false, cond, ℤ, pos, T, eqb, Float}
 use Rattle.std.proofs.Math.Path.{refl}
 use Rattle.std.proofs.Common.{sym, ap, ◌∙◌, subst, inl, inr, lt_irrefl, zero-mul, eq-zero-or-pos, eqb→eq, lit≤}
 use Rattle.std.proofs.Math.Nat.{eq_of_mul-eq-mul_right}
@@ -9,7 +8,6 @@ use Rattle.std.proofs.Math.Dec.{eqb-suc-zero}
 use Rattle.std.specs.Float.{nan, inf, fin, binary64}
 use Rattle.std.specs.Float.Ieee.{fits, sub, div, lt, le, eq, is_nan, of_bits}
 use Rattle.std.specs.Float.Ieee.Fits.{div-fits, and_l, eq→eqb}
-use Rattle.std.specs.Float.Ieee.Bits.{of_bits-fits}
 use Rattle.std.specs.Float.Ieee.Scale.{finite}
 use Rattle.std.specs.Float.Ieee.Positive.{num, den, den_pos, positive}
 use Rattle.arithmetic.specs.Operations.{◌⊘◌, bits, plus_zero, two, min_positive}
@@ -20,20 +18,17 @@ use Rattle.arithmetic.specs.Laws.Zeros.{zero_of, zero_by_sign, equal_same}
 use Rattle.bs_option_price.specs.Laws.Moneyness.{BoundedRatio}
 use Rattle.inverse_gaussian.specs.Counted.{at_once}
 use Rattle.explicit_black.specs.Quote.{refused, answer, refusal, volatility_over, reply, first_refusal, from_price, from_figures}
-use Rattle.explicit_black.specs.Price.{AboveOrZero}
-use Rattle.explicit_black.specs.Demand.{Exactly, ComparablePair, ComparableFigures, ComparableTimes}
-use Rattle.explicit_black.specs.Discount.{discounted_refusal, from_discounted_quote, implied_black_volatility_discounted, discounted_at_bits, DiscountedAgree}
+use Rattle.explicit_black.specs.Demand.{Exactly, ComparableFigures, ComparableTimes}
+use Rattle.explicit_black.specs.Discount.{discounted_refusal, from_discounted_quote, implied_black_volatility_discounted}
 use Rattle.explicit_black.specs.Laws.ZeroPrice.{minus_zero}
 use Rattle.explicit_black.specs.Laws.Powers.{comparable_pair, comparable, four_times}
 use Rattle.explicit_black.specs.Laws.Demand.{times_tested, first_refusal_is, after_tests, swapped, exchanged}
-use Rattle.explicit_black.specs.Laws.Demand.{zero_after_tests, ComparableValues, same_figures, comparable_ratio}
-use Rattle.explicit_black.specs.Laws.Demand.{call_price, call_forward, call_strike, put_price, put_forward, put_strike, time_one}
-use Rattle.explicit_black.specs.Laws.Demand.{comparable_call, comparable_put}
-use Rattle.explicit_black.specs.Laws.Discount.{test15, factor_not_finite, factor_tested_last, discounted_passed, past_tests, compared_discounted}
-use Rattle.explicit_black.specs.Laws.DividedPrices.{dividend_finite, zero_quotient, divided_values, scaled_figures}
+use Rattle.explicit_black.specs.Laws.Demand.{zero_after_tests}
+use Rattle.explicit_black.specs.Laws.Discount.{test15, factor_not_finite, factor_tested_last, discounted_passed, past_tests}
+use Rattle.explicit_black.specs.Laws.DividedPrices.{zero_quotient}
 
 -- ---- two factors that are equal: tests 2 and 15 say the same of them, and they are the same where they are above 0
-record SameFactor (d d' : Float) : Type 0 where
+pub record SameFactor (d d' : Float) : Type 0 where
   pub finite_alike : is_finite d' ≡ is_finite d
   pub above_alike : lt plus_zero d' ≡ lt plus_zero d
   pub same : T (positive d) → d' ≡ d
@@ -49,7 +44,7 @@ zero_not_above v F p z = ap (lt plus_zero) (zero_by_sign v F p z) ∙ go (is_sig
     go true = refl
     go false = refl
 
-equal_factors : (d d' : Float) → T (fits binary64 d) → T (fits binary64 d') → T (eq d d') → SameFactor d d'
+pub equal_factors : (d d' : Float) → T (fits binary64 d) → T (fits binary64 d') → T (eq d d') → SameFactor d d'
 unfolding eq
 equal_factors nan d' F F' e = absurd e
 equal_factors (inf s) nan F F' e = absurd e
@@ -120,85 +115,16 @@ module _ (n : ℤ) (p f k t d p' f' k' t' d' : Float) (P : T (finite p)) (P' : T
           ∙ ap (λ (b : Bool). cond b 2 1) e
           ∙ sym (factor_not_finite side p f k t d i)
 
-  same_discounted : (side : ℕ) → Exactly n f f' → Exactly n k k' → from_discounted_quote side p' f' k' t' d' ≡ from_discounted_quote side p f k t d
+  pub same_discounted : (side : ℕ) → Exactly n f f' → Exactly n k k' → from_discounted_quote side p' f' k' t' d' ≡ from_discounted_quote side p f k t d
   same_discounted side g i =
       after_tests_lem side side p f k t d p' f' k' t' d' (numbers side side refl) (λ D. figures D (eqb side 0) f' k' h' g i)
 
-  other_discounted : Exactly n k f' → Exactly n f k' → (from_discounted_quote 1 p' f' k' t' d' ≡ from_discounted_quote 0 p f k t d)
+  pub other_discounted : Exactly n k f' → Exactly n f k' → (from_discounted_quote 1 p' f' k' t' d' ≡ from_discounted_quote 0 p f k t d)
       × (from_discounted_quote 0 p' f' k' t' d' ≡ from_discounted_quote 1 p f k t d)
   other_discounted g i = (
     after_tests_lem 0 1 p f k t d p' f' k' t' d' (numbers 0 1 refl) (λ D. exchanged true (p' ⊘ d') f' k' t' h' ∙ figures D true k' f' (swapped f' k' h') i g),
     after_tests_lem 1 0 p f k t d p' f' k' t' d' (numbers 1 0 refl) (λ D. exchanged false (p' ⊘ d') f' k' t' h' ∙ figures D false k' f' (swapped f' k' h') i g),
   )
-
--- ---- DEMAND 3, for figures of any bits, factors included
-module _ (n : ℤ) (p f k t d p' f' k' t' d' : ℕ) (w : ComparableTimes (bits t) (bits t')) (e : T (eq (bits d) (bits d'))) where
-  abbrev quotient : Float
-  quotient = bits p ⊘ bits d
-
-  abbrev quotient' : Float
-  quotient' = bits p' ⊘ bits d'
-
-  factors : SameFactor (bits d) (bits d')
-  factors = equal_factors (bits d) (bits d') (of_bits-fits binary64 d) (of_bits-fits binary64 d') e
-
-  module _ (h : ComparablePair (bits f) (bits k)) (h' : ComparablePair (bits f') (bits k')) (P : T (finite (bits p))) (P' : T (finite (bits p')))
-      (figures : T (positive (bits d)) → (call : Bool) (f' k' : Float) → BoundedRatio f' k' → Exactly n (bits f) f' → Exactly n (bits k) k'
-      → after_tests call quotient' f' k' (bits t') ≡ after_tests call quotient (bits f) (bits k) (bits t)) where
-    agree_by : DiscountedAgree n p f k t d p' f' k' t' d'
-    agree_by = record {
-      same_side = λ side g i. is' side ∙ same_discounted n _ _ _ _ _ _ _ _ _ _ P P' r r' w factors figures side g i ∙ sym (is side);
-      other_side = λ g i.
-          let q = other_discounted n _ _ _ _ _ _ _ _ _ _ P P' r r' w factors figures g i in
-          (is' 1 ∙ q.0 ∙ sym (is 0), is' 0 ∙ q.1 ∙ sym (is 1));
-    }
-      where
-        r : BoundedRatio (bits f) (bits k)
-        r = comparable_ratio f k h
-
-        r' : BoundedRatio (bits f') (bits k')
-        r' = comparable_ratio f' k' h'
-
-        is : (side : ℕ) → discounted_at_bits side p f k t d ≡ from_discounted_quote side (bits p) (bits f) (bits k) (bits t) (bits d)
-        is side = compared_discounted side (bits p) (bits f) (bits k) (bits t) (bits d)
-
-        is' : (side : ℕ) → discounted_at_bits side p' f' k' t' d' ≡ from_discounted_quote side (bits p') (bits f') (bits k') (bits t') (bits d')
-        is' side = compared_discounted side (bits p') (bits f') (bits k') (bits t') (bits d')
-
-  -- The divided prices scale exactly; of the divided price, forward, strike and time what demand 3 asks. A price below 0 may divide to minus zero, and where
-  -- the factor is below 0 both quotes are refused.
-  pub divided_agree : ComparableFigures quotient (bits f) (bits k) → ComparableFigures quotient' (bits f') (bits k') → Exactly n quotient quotient'
-      → DiscountedAgree n p f k t d p' f' k' t' d'
-  divided_agree h h' x =
-      agree_by h.pair h'.pair (dividend_finite (bits p) (bits d) x.finite_x) (dividend_finite (bits p') (bits d') x.finite_y)
-      (λ D call a b r' g i.
-      let values : ComparableValues quotient (bits f) (bits k) =
-      record { held = div-fits binary64 _ _; bounded = x.finite_x; not_negative = h.price_not_negative; pair = comparable_ratio f k h.pair } in
-      let values' : ComparableValues quotient' a b =
-      record { held = div-fits binary64 _ _; bounded = x.finite_y; not_negative = h'.price_not_negative; pair = r' } in
-      same_figures quotient (bits f) (bits k) (bits t) quotient' a b (bits t') values values' w n call x g i)
-
-  module _ (h : ComparableFigures (bits p) (bits f) (bits k)) (h' : ComparableFigures (bits p') (bits f') (bits k')) where
-    -- The divided prices scale exactly; of price, forward, strike and time what demand 3 asks.
-    pub discounted_agree : Exactly n quotient quotient' → DiscountedAgree n p f k t d p' f' k' t' d'
-    discounted_agree x =
-        agree_by h.pair h'.pair h.price_finite h'.price_finite
-        (λ D call a b r' g i.
-        let r = comparable_ratio f k h.pair in
-        let values = divided_values (bits p) (bits f) (bits k) (bits d) D h.price_finite h.price_not_negative x.finite_x r in
-        let D' = subst (λ (z : Float). T (positive z)) (sym (factors.same D)) D in
-        let values' = divided_values (bits p') a b (bits d') D' h'.price_finite h'.price_not_negative x.finite_y r' in
-        same_figures quotient (bits f) (bits k) (bits t) quotient' a b (bits t') values values' w n call x g i)
-
-    -- The prices themselves scale exactly, and both divided prices are above 2 ^ -1022, or both are 0. They may be infinite.
-    pub scaled_agree : Exactly n (bits p) (bits p') → AboveOrZero quotient quotient' → DiscountedAgree n p f k t d p' f' k' t' d'
-    scaled_agree x z =
-        agree_by h.pair h'.pair h.price_finite h'.price_finite
-        (λ D call a b r' g i.
-        let c = factors.same D in
-        rw c
-        (scaled_figures n (bits p) (bits f) (bits k) (bits t) (bits p') a b (bits t') (bits d) D (comparable_ratio f k h.pair) r' w
-        h.price_not_negative h'.price_not_negative x g i (rw c at z) call))
 
 -- ---- MINUS ZERO AS PRICE IS ZERO, for a side of any number and other figures of any bits, the factor too: the replies are the same
 zero_divided : (side : ℕ) (s : Bool) (f k t d : Float) → T (positive d) → from_figures side (zero_of s ⊘ d) f k t ≡ from_figures side (zero_of false) f k t
@@ -227,61 +153,19 @@ pub discounted_of_minus_zero : (side : ℕ) (f k t d : Float)
 unfolding implied_black_volatility_discounted of_bits
 discounted_of_minus_zero side f k t d = ap (reply t) (zeros_alike side f k t d)
 
--- ---- calls and puts that agree: the hypotheses are met
-
 -- the call 0 1.91 100 120 1 1.9 and the put 1 7.640000000000001 480 400 1 1.9: the divided prices are exactly 4 times each other, and the prices are not
-abbrev call_discounted : ℕ
+abbrev pub call_discounted : ℕ
 call_discounted = 0x3FFE_8F5C_28F5_C28F
 
-abbrev put_discounted : ℕ
+abbrev pub put_discounted : ℕ
 put_discounted = 0x401E_8F5C_28F5_C290
 
-abbrev factor_bits : ℕ
+abbrev pub factor_bits : ℕ
 factor_bits = 0x3FFE_6666_6666_6666
 
 pub prices_not_scaled : Exactly (pos 1) (bits call_discounted) (bits put_discounted) → ⊥
 unfolding of_bits
 prices_not_scaled e = absurd (eq→eqb e.fraction)
-
-call_divided : bits call_discounted ⊘ bits factor_bits ≡ bits 0x3FF0_158E_D230_8159
-unfolding div of_bits
-call_divided = refl
-
-put_divided : bits put_discounted ⊘ bits factor_bits ≡ bits 0x4010_158E_D230_8159
-unfolding div of_bits
-put_divided = refl
-
-divided_four_times : Exactly (pos 1) (bits 0x3FF0_158E_D230_8159) (bits 0x4010_158E_D230_8159)
-unfolding of_bits
-divided_four_times = four_times (bits 0x3FF0_158E_D230_8159) (bits 0x4010_158E_D230_8159) tt tt refl refl
-
-pub discounted_call_and_put_agree : discounted_at_bits 1 put_discounted put_forward put_strike time_one factor_bits
-    ≡ discounted_at_bits 0 call_discounted call_forward call_strike time_one factor_bits
-unfolding div lt le eq of_bits
-discounted_call_and_put_agree =
-    ((discounted_agree (pos 1) call_discounted call_forward call_strike time_one factor_bits put_discounted put_forward put_strike time_one factor_bits
-    (inr (tt, tt, tt, tt)) tt (comparable _ _ _ tt tt comparable_call.pair) (comparable _ _ _ tt tt comparable_put.pair)
-    (rw (call_divided, put_divided) divided_four_times)).other_side
-    (four_times (bits call_strike) (bits put_forward) tt tt refl refl)
-    (four_times (bits call_forward) (bits put_strike) tt tt refl refl)
-    ).0
-
--- the calls 0 4 480 400 1 and 0 1 120 100 1 with the factor 2 ^ -1023: n is -1, and the first divided price is infinite
-abbrev small_factor : ℕ
-small_factor = 0x0008_0000_0000_0000
-
-four_down_lem : (x y : Float) → T (finite x) → T (finite y) → num y * den x * 4 ≡ num x * den y * 1 → is_sign_minus y ≡ is_sign_minus x → Exactly (negsuc 0) x y
-four_down_lem x y a b e s = record { finite_x = a; finite_y = b; fraction = e; signs = inr s }
-
-pub overflowing_calls_agree : discounted_at_bits 0 call_price call_strike call_forward time_one small_factor
-    ≡ discounted_at_bits 0 put_price put_forward put_strike time_one small_factor
-unfolding div lt le eq of_bits
-overflowing_calls_agree =
-    (scaled_agree (negsuc 0) put_price put_forward put_strike time_one small_factor call_price call_strike call_forward time_one small_factor
-    (inr (tt, tt, tt, tt)) tt comparable_put (comparable _ _ _ tt tt (comparable_pair _ _ tt tt tt tt (lit≤ tt) (lit≤ tt)))
-    (four_down_lem (bits put_price) (bits call_price) tt tt refl refl) (inl (tt, tt))).same_side 0
-    (four_down_lem (bits put_forward) (bits call_strike) tt tt refl refl)
-    (four_down_lem (bits put_strike) (bits call_forward) tt tt refl refl)
 
 -- ---- why both quotients are above 2 ^ -1022, and not at least: (2 ^ 53 - 1) * 2 ^ -1075 rounds to 2 ^ -1022, and 4 times it is a value. Two calls at time
 -- zero meet every other term of `scaled_agree`; the first has the intrinsic value as its divided price, and the second has not.

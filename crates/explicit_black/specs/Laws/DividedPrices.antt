@@ -1,6 +1,6 @@
--- A price divided by a factor above 0 (REQUIREMENTS 14.7): its sign; where prices that are exactly 4 ^ n times each other have such quotients; and that what
--- follows the tests is the same for them, also where a quotient is infinite. Assumes nothing.
-use Rattle.std.specs.Prelude.{◌≡◌, refl, ◌⊎◌, ℕ, suc, ◌+◌, ◌*◌, ◌^◌, ◌≤◌, ◌<◌, Bool, cond, ◌&&◌, ◌||◌, ℤ, pos, negsuc, T, ltb, Float}
+-- A price divided by a factor above 0 (REQUIREMENTS 14.7): its sign; and that what follows the tests is the same for prices scaled by 2 ^ (n + n), also where
+-- a quotient is infinite. The same for prices that are exactly 4 ^ n times each other follows in proofs/DividedPrices.antt. Assumes nothing.
+use Rattle.std.specs.Prelude.{◌≡◌, ◌||◌, refl, ◌⊎◌, ℕ, ◌+◌, ◌*◌, ◌^◌, ◌≤◌, ◌<◌, Bool, cond, ◌&&◌, ℤ, T, ltb, Float}
 use Rattle.std.proofs.Common.{sym, ap, ◌∙◌, subst, inl, inr, le_trans, le_of_eq, zero-mul, mul_comm, mul-pos, mul-le-mul_left, le-mul_of_pos_right, arith, true≢false, ltb→lt, pow_pos}
 use Rattle.std.proofs.Math.Bool.{true, false}
 use Rattle.std.proofs.lemmas.Bool.{false≢true}
@@ -21,20 +21,20 @@ use Rattle.arithmetic.specs.Laws.Quotients.{over_positive}
 use Rattle.arithmetic.specs.Laws.Sizes.{round_minus}
 use Rattle.arithmetic.specs.Laws.Extremes.{times_zero, max_is, max_times}
 use Rattle.arithmetic.specs.Laws.ScaledRatios.{PositiveNormal, normal_positive}
-use Rattle.arithmetic.specs.Laws.ScaledProducts.{above_normal, over_ratio, quotient_times}
+use Rattle.arithmetic.specs.Laws.ScaledProducts.{above_normal, over_ratio}
 use Rattle.arithmetic.specs.Laws.Overflow.{overflow_above}
 use Rattle.bs_option_price.specs.BsOptionPrice.{negative_abs_log_moneyness}
 use Rattle.bs_option_price.specs.Laws.Moneyness.{BoundedRatio}
 use Rattle.bs_option_price.specs.Laws.MoneynessBounds.{PositiveValue}
 use Rattle.inverse_gaussian.specs.Counted.{Counted, at_once}
 use Rattle.explicit_black.specs.Quote.{Outcome, refused}
-use Rattle.explicit_black.specs.Price.{AboveOrZero, BothAboveOrZero}
-use Rattle.explicit_black.specs.Demand.{four_up, four_down, Exactly, ComparableTimes}
+use Rattle.explicit_black.specs.Price.{AboveOrZero}
+use Rattle.explicit_black.specs.Demand.{four_up, four_down, Exactly}
 use Rattle.explicit_black.specs.Laws.Tests.{from_price_is}
 use Rattle.explicit_black.specs.Laws.ZeroPrice.{IsZero, round_is_zero, zero_not_below}
-use Rattle.explicit_black.specs.Laws.Price.{intrinsic_times, one_of, times_up, times_down, turned, flipped}
-use Rattle.explicit_black.specs.Laws.Demand.{times_tested, after_tests, Related, related_times, vanish}
-use Rattle.explicit_black.specs.Laws.Demand.{upward, downward, exactly_up, exactly_down, zero_times, clear_or_zero, ComparableValues, same_figures}
+use Rattle.explicit_black.specs.Laws.Price.{intrinsic_times}
+use Rattle.explicit_black.specs.Laws.Demand.{after_tests, Related, related_times, vanish}
+use Rattle.explicit_black.specs.Laws.Demand.{zero_times, clear_or_zero, ComparableValues}
 use Rattle.explicit_black.specs.Laws.Discount.{zero_finite, infinite_figures}
 
 -- ---- a price over a factor
@@ -77,33 +77,12 @@ module _ (p d : Float) (P : T (finite p)) (D : T (positive d)) where
       go (inl c) = inl (ap is_sign_minus (over_positive p d P D) ∙ round_minus (is_sign_minus p) _ _ ∙ c)
       go (inr z) = inr (zero_quotient z).vanishes
 
--- ---- prices that are exactly 4 ^ n times each other, over a factor above 0: so are the quotients, where both are finite, and both above 2 ^ -1022 or both 0
-zeros_exactly : (n : ℤ) (x y : Float) → T (finite x) → T (finite y) → num x ≡ 0 → num y ≡ 0 → Exactly n x y
+-- ---- zeros are exactly 4 ^ n times each other
+pub zeros_exactly : (n : ℤ) (x y : Float) → T (finite x) → T (finite y) → num x ≡ 0 → num y ≡ 0 → Exactly n x y
 zeros_exactly n x y p q z z' = record { finite_x = p; finite_y = q; fraction = rw (z, z') (zeros (den x) (den y) (four_down n) (four_up n)); signs = inl z }
   where
     zeros : (a b c e : ℕ) → 0 * a * c ≡ 0 * b * e
     zeros a b c e = rw (zero-mul a, zero-mul b, zero-mul c, zero-mul e)
-
-pub divided_exactly : (n : ℤ) (p p' d : Float) → T (positive d) → Exactly n p p' → BothAboveOrZero (p ⊘ d) (p' ⊘ d) → Exactly n (p ⊘ d) (p' ⊘ d)
-divided_exactly n p p' d D e h = go n e
-  where
-    vanishing : (n : ℤ) → T (finite p) → T (finite p') → num p ≡ 0 → num p' ≡ 0 → Exactly n (p ⊘ d) (p' ⊘ d)
-    vanishing n P P' z z' = zeros_exactly n _ _ h.first_finite h.second_finite (zero_quotient p d P D z).vanishes (zero_quotient p' d P' D z').vanishes
-
-    up : (n : ℕ) → T (finite p) → T (finite p') → Related (n + n) p p' → Exactly (pos n) (p ⊘ d) (p' ⊘ d)
-    up n P P' (vanish z z') = vanishing (pos n) P P' z z'
-    up n P P' (related_times g) =
-        times_up n _ _ (quotient_times (n + n) p p' d g D h.first_finite h.second_finite (one_of h.above_or_zero))
-
-    down : (n : ℕ) → T (finite p) → T (finite p') → Related (suc n + suc n) p' p → Exactly (negsuc n) (p ⊘ d) (p' ⊘ d)
-    down n P P' (vanish z z') = vanishing (negsuc n) P P' z' z
-    down n P P' (related_times g) =
-        times_down n _ _
-        (quotient_times (suc n + suc n) p' p d g D h.second_finite h.first_finite (one_of (flipped (p ⊘ d) (p' ⊘ d) h).above_or_zero))
-
-    go : (n : ℤ) → Exactly n p p' → Exactly n (p ⊘ d) (p' ⊘ d)
-    go (pos n) e = up n e.finite_x e.finite_y (upward n p p' e)
-    go (negsuc n) e = down n e.finite_x e.finite_y (downward n p p' e)
 
 -- ---- of two such quotients the larger may be infinite: then the smaller is above its bound, and above the intrinsic value, and both are refused alike
 above_infinite : (v : Float) → is_finite v ≡ false → T (lt min_positive v) → v ≡ inf false
@@ -247,7 +226,7 @@ module _ (n : ℕ) (p f k t p' f' k' t' d : Float) (D : T (positive d)) (h : Bou
   abbrev FiguresAlike : Type 0
   FiguresAlike = after_tests call (p' ⊘ d) f' k' t' ≡ after_tests call (p ⊘ d) f k t
 
-  scaled_up_figures : T (finite p) → T (finite p') → T (le plus_zero p) → Related (n + n) p p' → eq t' plus_zero ≡ eq t plus_zero
+  pub scaled_up_figures : T (finite p) → T (finite p') → T (le plus_zero p) → Related (n + n) p p' → eq t' plus_zero ≡ eq t plus_zero
       → AboveOrZero (p ⊘ d) (p' ⊘ d) → (T (finite (p ⊘ d)) → T (finite (p' ⊘ d)) → FiguresAlike) → FiguresAlike
   scaled_up_figures P P' o r time (inr (z, z')) exact = exact (subst T (sym (zero_is_finite _ z)) tt) (subst T (sym (zero_is_finite _ z')) tt)
   scaled_up_figures P P' o r time (inl (l, l')) exact = go (is_finite (p ⊘ d)) (is_finite (p' ⊘ d)) refl refl
@@ -263,36 +242,7 @@ module _ (n : ℕ) (p f k t p' f' k' t' d : Float) (D : T (positive d)) (h : Bou
       go false true e e' = let (hp, s) = not_zero P P' o r (rw e) in absurd (larger_infinite n p p' d D hp s e l e')
       go false false e e' = infinite_refused call (p' ⊘ d) f' k' t' h' e' l' ∙ later ∙ sym (infinite_refused call (p ⊘ d) f k t h e l)
 
--- ---- what follows the tests, for prices that are exactly 4 ^ n times each other
+-- ---- the values that follow the tests
 pub divided_values : (p f k d : Float) → T (positive d) → T (finite p) → T (le plus_zero p) → T (finite (p ⊘ d)) → BoundedRatio f k
     → ComparableValues (p ⊘ d) f k
 divided_values p f k d D P o q h = record { held = div-fits binary64 p d; bounded = q; not_negative = quotient_not_negative p d P D o q; pair = h }
-
-pub scaled_figures : (n : ℤ) (p f k t p' f' k' t' d : Float) → T (positive d) → BoundedRatio f k → BoundedRatio f' k' → ComparableTimes t t' → T (le plus_zero p)
-    → T (le plus_zero p') → Exactly n p p' → Exactly n f f' → Exactly n k k' → AboveOrZero (p ⊘ d) (p' ⊘ d) → (call : Bool)
-    → after_tests call (p' ⊘ d) f' k' t' ≡ after_tests call (p ⊘ d) f k t
-scaled_figures n p f k t p' f' k' t' d D h h' w o o' x g i b call = go n x g i exact
-  where
-    time : eq t' plus_zero ≡ eq t plus_zero
-    time = let (z, u, v) = times_tested t t' w in v.is_zero ∙ sym u.is_zero
-
-    exact : T (finite (p ⊘ d)) → T (finite (p' ⊘ d)) → after_tests call (p' ⊘ d) f' k' t' ≡ after_tests call (p ⊘ d) f k t
-    exact q q' =
-        let e = divided_exactly n p p' d D x (record { first_finite = q; second_finite = q'; above_or_zero = b }) in
-        let values = divided_values p f k d D x.finite_x o q h in
-        let values' = divided_values p' f' k' d D x.finite_y o' q' h' in
-        same_figures (p ⊘ d) f k t (p' ⊘ d) f' k' t' values values' w n call e g i
-
-    go : (n : ℤ) → Exactly n p p' → Exactly n f f' → Exactly n k k'
-        → (T (finite (p ⊘ d)) → T (finite (p' ⊘ d)) → after_tests call (p' ⊘ d) f' k' t' ≡ after_tests call (p ⊘ d) f k t)
-        → after_tests call (p' ⊘ d) f' k' t' ≡ after_tests call (p ⊘ d) f k t
-    go (pos n) x g i exact =
-        let hf = exactly_up n f f' h.forward g in
-        let hk = exactly_up n k k' h.strike i in
-        scaled_up_figures n p f k t p' f' k' t' d D h h' hf hk call x.finite_x x.finite_y o (upward n p p' x) time b exact
-    go (negsuc n) x g i exact =
-        let hf = exactly_down n f f' h'.forward g in
-        let hk = exactly_down n k k' h'.strike i in
-        sym (scaled_up_figures (suc n) p' f' k' t' p f k t d D h' h hf hk call x.finite_y x.finite_x o' (downward n p p' x) (sym time)
-        (turned (p ⊘ d) (p' ⊘ d) b)
-        (λ q' q. sym (exact q q')))

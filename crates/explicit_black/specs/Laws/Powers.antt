@@ -229,8 +229,8 @@ far_refused = refl
 ratio_over : (p f k : Float) → T (finite p) → T (le plus_zero p) → PairInRange f k → NotOver f k → (NotOver k f → ⊥) → RatioOver p f k
 ratio_over p f k a b r h i = record { price_finite = a; price_not_negative = b; in_range = r; forward_not_over = h; strike_over = i }
 
-pub four_times : (x y : Float) → T (finite x) → T (finite y) → num y * den x * 1 ≡ num x * den y * 4 → is_sign_minus y ≡ is_sign_minus x
-    → Exactly (pos 1) x y
+pub four_times : (x y : Float) → T (finite x) → T (finite y) → num y * den x * four_down (pos 1) ≡ num x * den y * four_up (pos 1)
+    → is_sign_minus y ≡ is_sign_minus x → Exactly (pos 1) x y
 four_times x y a b e s = record { finite_x = a; finite_y = b; fraction = e; signs = inr s }
 
 pub ratio_limited : BeyondRatio far_price far_forward far_strike four_far_price four_far_forward four_far_strike

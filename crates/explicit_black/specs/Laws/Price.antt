@@ -1,5 +1,6 @@
--- The law of 4 ^ n for prices (REQUIREMENTS 14.1): where forward and strike are exactly 4 ^ n times another's, with one side, volatility and time, both
--- are refused with one number, or the price is exactly 4 ^ n times the other's. Assumes nothing.
+-- What the law of 4 ^ n for prices (REQUIREMENTS 14.1) rests on: prices of forwards and strikes scaled by 2 ^ (n + n), and such a scale as `Exactly`. And its
+-- first half: where forward and strike are exactly 4 ^ n times another's, with one side, volatility and time, both are refused with one number or neither
+-- is. That the price is exactly 4 ^ n times the other's follows in proofs/PriceLaw.antt. Assumes nothing.
 use Rattle.std.specs.Prelude.{◌≡◌, refl, ◌⊎◌, ℕ, suc, ◌+◌, ◌*◌, ◌^◌, Bool, true, false, cond, ℤ, pos, negsuc, eqb, Float}
 use Rattle.std.proofs.Common.{sym, ap, ◌∙◌, inl, inr, mul-one, mul_right_comm}
 use Rattle.std.proofs.Math.Path.{subst}
@@ -24,7 +25,7 @@ use Rattle.bs_option_price.specs.Laws.Moneyness.{BoundedRatio, log_times}
 use Rattle.explicit_black.specs.Quote.{first_refusal, intrinsic_value}
 use Rattle.explicit_black.specs.Price.{price, refusal, price_refusal, time_value, price_of, black_price, AboveOrZero, BothAboveOrZero}
 use Rattle.explicit_black.specs.Demand.{Exactly, ComparablePair}
-use Rattle.explicit_black.specs.Laws.Demand.{above_plus_zero, difference_finite, exactly_up, exactly_down, comparable_ratio}
+use Rattle.explicit_black.specs.Laws.Demand.{above_plus_zero, difference_finite, comparable_ratio}
 
 -- ---- a price from its time value v and its intrinsic value i; `zero` tells whether s is 0, `above` whether i is above 0
 abbrev price_from : Bool → Bool → Float → Float → Float
@@ -65,7 +66,7 @@ module _ (n : ℕ) (f k f' k' s : Float) (h : BoundedRatio f k) (h' : BoundedRat
       let w : BothAboveOrZero (r ⊗ b) (r' ⊗ b) = subst (BothAboveOrZero (r ⊗ b)) same q in
       subst (Times (n + n) (r ⊗ b)) (sym same) (product_times (n + n) r r' b roots w.first_finite w.second_finite (one_of w.above_or_zero))
 
-  price_times : (side : ℕ) → BothAboveOrZero (time_value f k s) (time_value f' k' s) → T (finite (price_of side f' k' s))
+  pub price_times : (side : ℕ) → BothAboveOrZero (time_value f k s) (time_value f' k' s) → T (finite (price_of side f' k' s))
       → Times (n + n) (price_of side f k s) (price_of side f' k' s)
   unfolding price_of
   price_times side q p =
@@ -134,36 +135,9 @@ turned v v' (inr (z, z')) = inr (z', z)
 pub flipped : (v v' : Float) → BothAboveOrZero v v' → BothAboveOrZero v' v
 flipped v v' q = record { first_finite = q.second_finite; second_finite = q.first_finite; above_or_zero = turned v v' q.above_or_zero }
 
--- for values of binary64
-price_exactly : (n : ℤ) (side : ℕ) (f k f' k' s : Float) → BoundedRatio f k → BoundedRatio f' k' → Exactly n f f' → Exactly n k k'
-    → BothAboveOrZero (time_value f k s) (time_value f' k' s) → T (finite (price_of side f k s)) → T (finite (price_of side f' k' s))
-    → Exactly n (price_of side f k s) (price_of side f' k' s)
-price_exactly (pos n) side f k f' k' s h h' e g q p p' =
-    times_up n _ _
-    (price_times n f k f' k' s h h' (exactly_up n f f' h.forward e) (exactly_up n k k' h.strike g) side q p')
-price_exactly (negsuc n) side f k f' k' s h h' e g q p p' =
-    times_down n _ _
-    (price_times (suc n) f' k' f k s h' h (exactly_down n f f' h'.forward e) (exactly_down n k k' h'.strike g) side
-    (flipped (time_value f k s) (time_value f' k' s) q) p)
-
--- ---- THE LAW OF 4 ^ n, for figures of any bits and a side of any number. Forward and strike of the second are exactly 4 ^ n times the first's.
+-- ---- the law of 4 ^ n, for figures of any bits and a side of any number: forward and strike of the second are exactly 4 ^ n times the first's
 module _ (n : ℤ) (side v f k t f' k' : ℕ) (h : ComparablePair (bits f) (bits k)) (h' : ComparablePair (bits f') (bits k'))
     (e : Exactly n (bits f) (bits f')) (g : Exactly n (bits k) (bits k')) where
-  -- the total volatility of both
-  abbrev s : Float
-  s = bits v ⊗ sqrt (bits t)
-
   -- one number, 0 where there is a price
   pub same_number : price_refusal side (bits v) (bits f') (bits k') (bits t) ≡ price_refusal side (bits v) (bits f) (bits k) (bits t)
   same_number = tests_alike side (bits v) (bits f) (bits k) (bits t) (bits f') (bits k') (comparable_ratio f k h) (comparable_ratio f' k' h')
-
-  -- the prices, where both have one, and they and the time values meet the terms of the law
-  pub price_scales : (p p' : Float) → black_price side (bits v) (bits f) (bits k) (bits t) ≡ price p
-      → black_price side (bits v) (bits f') (bits k') (bits t) ≡ price p'
-      → BothAboveOrZero (time_value (bits f) (bits k) s) (time_value (bits f') (bits k') s) → BothAboveOrZero p p' → Exactly n p p'
-  price_scales p p' r r' q w =
-      let i = (price_is side (bits v) (bits f) (bits k) (bits t) p r).1 in
-      let i' = (price_is side (bits v) (bits f') (bits k') (bits t) p' r').1 in
-      rw (← i, ← i')
-      (price_exactly n side (bits f) (bits k) (bits f') (bits k') s (comparable_ratio f k h) (comparable_ratio f' k' h') e g q
-      (rw (← i) at w.first_finite) (rw (← i') at w.second_finite))

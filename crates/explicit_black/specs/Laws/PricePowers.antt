@@ -1,4 +1,4 @@
--- The law of 4 ^ n for prices (REQUIREMENTS 14.1) at a pair of prices, computed; and why it says 4 ^ n, and above 2 ^ -1022, and that of the time values
+-- Pairs of prices for the law of 4 ^ n (REQUIREMENTS 14.1), computed; and why it says 4 ^ n, and above 2 ^ -1022, and that of the time values
 -- too: pairs that meet its terms but one, which is weakened, and whose prices do not scale, by computation. The bits are the Rust's. Assumes nothing.
 use Rattle.std.specs.Prelude.{◌≡◌, refl, ℕ, pos, T, Float}
 use Rattle.std.proofs.Common.{inl, lit≤}
@@ -22,7 +22,6 @@ use Rattle.explicit_black.specs.Quote.{first_refusal}
 use Rattle.explicit_black.specs.Price.{PriceReply, price, price_refusal, time_value, price_of, black_price, BothAboveOrZero}
 use Rattle.explicit_black.specs.Demand.{Exactly, ComparablePair}
 use Rattle.explicit_black.specs.Laws.Powers.{comparable_pair, times_two, four_times}
-use Rattle.explicit_black.specs.Laws.Price.{price_scales}
 
 -- ---- the price at time 1, and its time value, ready to be computed
 unfoldable pub price_at_one : ℕ → Float → Float → Float → PriceReply
@@ -37,19 +36,19 @@ abbrev value_at_one : Float → Float → Float → Float
 value_at_one volatility forward strike = time_value forward strike (volatility ⊗ sqrt one)
 
 -- ---- the law at a pair: volatility 0.2 with forward 100 and strike 110, and with 400 and 440
-abbrev fifth : ℕ
+abbrev pub fifth : ℕ
 fifth = 0x3FC9_9999_9999_999A
 
-abbrev hundred : ℕ
+abbrev pub hundred : ℕ
 hundred = 0x4059_0000_0000_0000
 
-abbrev hundred_ten : ℕ
+abbrev pub hundred_ten : ℕ
 hundred_ten = 0x405B_8000_0000_0000
 
-abbrev four_hundred : ℕ
+abbrev pub four_hundred : ℕ
 four_hundred = 0x4079_0000_0000_0000
 
-abbrev four_hundred_forty : ℕ
+abbrev pub four_hundred_forty : ℕ
 four_hundred_forty = 0x407B_8000_0000_0000
 
 -- 4.292010941409889 and 17.168043765639556; with the factors of the time value in another order both end in another digit
@@ -63,17 +62,6 @@ pub puts_priced : (price_at_one 1 (bits fifth) (bits hundred) (bits hundred_ten)
     × (price_at_one 1 (bits fifth) (bits four_hundred) (bits four_hundred_forty) ≡ price (bits 0x404C_9582_7546_DBFA))
 unfolding price_at_one
 puts_priced = (refl, refl)
-
--- they meet the terms of the law
-pub puts_scale : Exactly (pos 1) (bits 0x402C_9582_7546_DBFA) (bits 0x404C_9582_7546_DBFA)
-unfolding price_at_one
-puts_scale =
-    price_scales (pos 1) 1 fifth hundred hundred_ten 0x3FF0_0000_0000_0000 four_hundred four_hundred_forty
-    (comparable_pair _ _ tt tt tt tt (lit≤ tt) (lit≤ tt)) (comparable_pair _ _ tt tt tt tt (lit≤ tt) (lit≤ tt))
-    (four_times _ _ tt tt refl refl) (four_times _ _ tt tt refl refl)
-    _ _ puts_priced.0 puts_priced.1
-    (record { first_finite = tt; second_finite = tt; above_or_zero = inl (tt, tt) })
-    (record { first_finite = tt; second_finite = tt; above_or_zero = inl (tt, tt) })
 
 -- ---- Two calls at time 1 whose prices p and p' do not scale, although they meet the terms of the law with `Scaled` for exactly 4 ^ n times, and with
 -- `Value` and `Amount` for what is asked of the time values and of the prices.

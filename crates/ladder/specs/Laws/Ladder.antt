@@ -15,7 +15,8 @@ use Rattle.explicit_black.specs.Demand.{compared, Exactly, ComparableFigures, Co
 use Rattle.explicit_black.specs.Laws.Quote.{compared_reply, time_value_refused, first_refusal_le, input_facts}
 use Rattle.explicit_black.specs.Laws.Discount.{factor_one_at_bits}
 use Rattle.explicit_black.specs.Laws.Tests.{bound_tests_refused}
-use Rattle.explicit_black.specs.Laws.Demand.{input_at_bits, same_side, other_side}
+use Rattle.explicit_black.specs.Laws.Demand.{input_at_bits}
+use Rattle.explicit_black.proofs.Demand.{same_side, other_side}
 use Rattle.ladder.specs.Ladder.{total_of, volatility_of, count_of, number_of, takes_root, replies, trues, root_places, strike_roots}
 use Rattle.ladder.specs.Ladder.{Ladder, length_refusal, solved_ladder, ladder}
 use Rattle.ladder.specs.Demand.{Inputs, handed_back, refusal_of, strike_at, price_at, Compared, compared_at}

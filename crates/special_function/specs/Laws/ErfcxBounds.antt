@@ -60,7 +60,7 @@ pq_small z h =
     (between_add h (between_of 9 2 (Q at 0) tt) (lit≤ tt) (lit≤ tt)) (lit≤ tt) (lit≤ tt) (lit≤ tt))
     (lit≤ tt)
 
--- ---- above the threshold
+-- ---- above four
 four_value : HasValue four false 4 1
 unfolding of_bits
 four_value = (refl, refl)
@@ -72,16 +72,6 @@ past_four y h l = elim (lt_or_le (num y) (4 * den y)) [
       (le_trans (le_of_eq (mul-one (num y))) (le_of_lt k)))) ∙ l))
   | inr k ↦ k
 ]
-
-above_small : (y : Float) → Plus 3 y → Small 44 (erfcx_cody_above_threshold y)
-unfolding erfcx_cody_above_threshold of_bits
-above_small y h =
-    by_test (Small 44) (le y four) (λ e. cd_small y h)
-    (λ e.
-    let l : den y ≤ num y * 2 ^ 0 = omega (arith, past_four y h e) in
-    let Y : Between 0 3 y = record { plus = h; least = l } in
-    let z : Plus 0 (recip (y ⊗ y)) = plus_div (between_of 0 0 one tt).plus (between_square 0 h.small l (lit≤ tt) (lit≤ tt)) (lit≤ tt) in
-    small_widen 44 (small_div (small_sub (small_of 0 one_over_sqrt_pi tt) (pq_small (recip (y ⊗ y)) z) (lit≤ tt)) Y (lit≤ tt)) (lit≤ tt))
 
 -- ---- the exponential of a square
 trunc_size : (a : ℕ) (x : Float) → Size a x → a < 2 ^ 53 → Size a (trunc x)
@@ -124,7 +114,7 @@ not_far (fin true m e) h = le-ltb (num xneg * down e) (m * up e * den xneg) (go 
     go n d h = omega arith
 
 pub erfcx_small : (x : Float) → Small 3 x → Small 802 (erfcx_cody x)
-unfolding erfcx_cody of_bits
+unfolding erfcx_cody erfcx_cody_above_threshold of_bits
 erfcx_small x h =
     let y : Plus 3 (abs x) = plus_abs x h in
     let z : Plus 6 (abs x ⊗ abs x) = small_square y.small (lit≤ tt) in
@@ -141,3 +131,13 @@ erfcx_small x h =
   where
     wide : (n d : ℕ) → n ≤ 2 ^ 3 * d → n * 64 ≤ 512 * d
     wide n d h = omega arith
+
+    -- above the threshold
+    above_small : (y : Float) → Plus 3 y → Small 44 (erfcx_cody_above_threshold y)
+    above_small y h =
+        by_test (Small 44) (le y four) (λ e. cd_small y h)
+        (λ e.
+        let l : den y ≤ num y * 2 ^ 0 = omega (arith, past_four y h e) in
+        let Y : Between 0 3 y = record { plus = h; least = l } in
+        let z : Plus 0 (recip (y ⊗ y)) = plus_div (between_of 0 0 one tt).plus (between_square 0 h.small l (lit≤ tt) (lit≤ tt)) (lit≤ tt) in
+        small_widen 44 (small_div (small_sub (small_of 0 one_over_sqrt_pi tt) (pq_small (recip (y ⊗ y)) z) (lit≤ tt)) Y (lit≤ tt)) (lit≤ tt))

@@ -1,21 +1,27 @@
 -- Demand 3 (REQUIREMENTS 2.3): a quote, and one whose figures are exactly 4 ^ n times its figures, on the same side or exchanged, have one total
 -- volatility or refusal number, and one count. What it needs beside these stands in specs/Laws/Demand.antt. Assumes nothing.
-use Rattle.std.specs.Prelude.{◌≡◌, ◌||◌, ℕ, suc, ◌+◌, Bool, true, false, not, cond, ℤ, pos, negsuc, eqb, Float}
+use Rattle.std.specs.Prelude.{◌≡◌, ◌||◌, ℕ, suc, ◌+◌, ◌*◌, T, Bool, true, false, not, cond, ℤ, pos, negsuc, eqb, Float}
 use Rattle.std.proofs.Math.Path.{refl}
 use Rattle.std.proofs.Common.{sym, ap, ◌∙◌, inr}
 use Rattle.std.specs.Float.Ieee.{lt, of_bits}
+use Rattle.std.specs.Float.Ieee.Scale.{finite}
+use Rattle.std.specs.Float.Ieee.Positive.{num, den}
+use Rattle.arithmetic.specs.Basic.{is_sign_minus}
 use Rattle.arithmetic.specs.Operations.{bits}
 use Rattle.arithmetic.specs.Laws.Times.{Times}
 use Rattle.arithmetic.specs.Laws.ScaledRatios.{PositiveNormal}
 use Rattle.inverse_gaussian.specs.Counted.{Counted, at_once}
 use Rattle.explicit_black.specs.Quote.{Outcome, refused, from_quote}
 use Rattle.explicit_black.specs.Demand.{Exactly, ComparableFigures, ComparableTimes}
-use Rattle.explicit_black.specs.Laws.Powers.{four_times}
 use Rattle.explicit_black.specs.Laws.Demand.{times_tested, after_tests, from_quote_is, swapped, exchanged, upward, downward, normal_times}
 use Rattle.explicit_black.specs.Laws.Demand.{ComparableValues, scaled_up, input_at_bits, input_at_bits_is, comparable_values, call_price, call_forward}
 use Rattle.explicit_black.specs.Laws.Demand.{call_strike, put_price, put_forward, put_strike, time_one, comparable_call, comparable_put}
 
 -- ---- from `Exactly` to `Times`
+pub four_times : (x y : Float) → T (finite x) → T (finite y) → num y * den x * 1 ≡ num x * den y * 4 → is_sign_minus y ≡ is_sign_minus x
+    → Exactly (pos 1) x y
+four_times x y a b e s = record { finite_x = a; finite_y = b; fraction = e; signs = inr s }
+
 -- of normal values above zero, upward from x to y
 pub exactly_up : (n : ℕ) (x y : Float) → PositiveNormal x → Exactly (pos n) x y → Times (n + n) x y
 exactly_up n x y o h = normal_times (n + n) x y o (upward n x y h)

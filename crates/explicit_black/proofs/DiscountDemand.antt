@@ -16,14 +16,14 @@ use Rattle.bs_option_price.specs.Laws.Moneyness.{BoundedRatio}
 use Rattle.explicit_black.specs.Price.{AboveOrZero}
 use Rattle.explicit_black.specs.Demand.{Exactly, ComparablePair, ComparableFigures, ComparableTimes}
 use Rattle.explicit_black.specs.Discount.{from_discounted_quote, discounted_at_bits, DiscountedAgree}
-use Rattle.explicit_black.specs.Laws.Powers.{comparable_pair, comparable, four_times}
+use Rattle.explicit_black.specs.Laws.Powers.{comparable_pair, comparable}
 use Rattle.explicit_black.specs.Laws.Demand.{after_tests, ComparableValues, comparable_ratio, call_price, call_forward, call_strike, put_price}
 use Rattle.explicit_black.specs.Laws.Demand.{put_forward, put_strike, time_one, comparable_call, comparable_put}
 use Rattle.explicit_black.specs.Laws.Discount.{compared_discounted}
 use Rattle.explicit_black.specs.Laws.DividedPrices.{dividend_finite, divided_values}
 use Rattle.explicit_black.specs.Laws.DiscountDemand.{SameFactor, equal_factors, same_discounted, other_discounted, call_discounted, put_discounted}
 use Rattle.explicit_black.specs.Laws.DiscountDemand.{factor_bits}
-use Rattle.explicit_black.proofs.Demand.{same_figures}
+use Rattle.explicit_black.proofs.Demand.{four_times, same_figures}
 use Rattle.explicit_black.proofs.DividedPrices.{scaled_figures}
 
 -- ---- DEMAND 3, for figures of any bits, factors included

@@ -10,10 +10,10 @@ use Rattle.bs_option_price.specs.Laws.Moneyness.{BoundedRatio}
 use Rattle.explicit_black.specs.Price.{price, time_value, price_of, black_price, BothAboveOrZero}
 use Rattle.explicit_black.specs.Demand.{Exactly, ComparablePair}
 use Rattle.explicit_black.specs.Laws.Demand.{exactly_down, comparable_ratio}
-use Rattle.explicit_black.specs.Laws.Powers.{comparable_pair, four_times}
+use Rattle.explicit_black.specs.Laws.Powers.{comparable_pair}
 use Rattle.explicit_black.specs.Laws.Price.{price_times, times_up, times_down, price_is, flipped}
 use Rattle.explicit_black.specs.Laws.PricePowers.{price_at_one, fifth, hundred, hundred_ten, four_hundred, four_hundred_forty, puts_priced}
-use Rattle.explicit_black.proofs.Demand.{exactly_up}
+use Rattle.explicit_black.proofs.Demand.{four_times, exactly_up}
 
 -- for values of binary64
 price_exactly : (n : ℤ) (side : ℕ) (f k f' k' s : Float) → BoundedRatio f k → BoundedRatio f' k' → Exactly n f f' → Exactly n k k'

@@ -9,7 +9,7 @@ use Rattle.arithmetic.specs.Basic.{max}
 use Rattle.arithmetic.specs.Sqrt.{sqrt}
 use Rattle.explicit_black.specs.Quote.{volatility_over, first_refusal, from_time_value, from_price, from_quote, implied_black_volatility_input}
 use Rattle.explicit_black.specs.Laws.Demand.{call_price, call_forward, call_strike, put_price, put_forward, put_strike, time_one, comparable_call, comparable_put}
-use Rattle.explicit_black.specs.Laws.Powers.{four_times}
+use Rattle.explicit_black.proofs.Demand.{four_times}
 use Rattle.ladder.specs.Ladder.{solved, refused, replies, trues, root_places, takes_root, length_refusal, solved_ladder, ladder}
 use Rattle.ladder.specs.Demand.{Inputs, handed_back, compared_at}
 use Rattle.ladder.specs.Laws.Ladder.{other_side_places}

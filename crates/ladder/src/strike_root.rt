@@ -5,7 +5,7 @@ ghost use Rattle.arithmetic.specs.Sqrt.{sqrt};
 use arithmetic::sqrt::sqrt;
 
 // How many strike roots were taken. Its field is private, so that no other code makes one but by `none` and `strike_root`.
-#[derive(Drop)]
+#[derive(Clone, Copy)]
 pub struct StrikeRoots {
     taken: u64,
 }

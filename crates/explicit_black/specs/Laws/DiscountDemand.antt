@@ -21,7 +21,7 @@ use Rattle.explicit_black.specs.Quote.{refused, answer, refusal, volatility_over
 use Rattle.explicit_black.specs.Demand.{Exactly, ComparableFigures, ComparableTimes}
 use Rattle.explicit_black.specs.Discount.{discounted_refusal, from_discounted_quote, implied_black_volatility_discounted}
 use Rattle.explicit_black.specs.Laws.ZeroPrice.{minus_zero}
-use Rattle.explicit_black.specs.Laws.Powers.{comparable_pair, comparable, four_times}
+use Rattle.explicit_black.specs.Laws.Powers.{comparable_pair, comparable, exactly_at_one}
 use Rattle.explicit_black.specs.Laws.Demand.{times_tested, first_refusal_is, after_tests, swapped, exchanged}
 use Rattle.explicit_black.specs.Laws.Demand.{zero_after_tests}
 use Rattle.explicit_black.specs.Laws.Discount.{test15, factor_not_finite, factor_tested_last, discounted_passed, past_tests}
@@ -204,9 +204,9 @@ unfolding implied_black_volatility_discounted from_discounted_quote discounted_r
 at_the_limit = record {
   first_comparable = comparable _ _ _ tt tt (comparable_pair _ _ tt tt tt tt (lit≤ tt) (lit≤ tt));
   second_comparable = comparable _ _ _ tt tt (comparable_pair _ _ tt tt tt tt (lit≤ tt) (lit≤ tt));
-  price_scaled = four_times _ _ tt tt refl refl;
-  forward_scaled = four_times _ _ tt tt refl refl;
-  strike_scaled = four_times _ _ tt tt refl refl;
+  price_scaled = exactly_at_one _ _ tt tt refl refl;
+  forward_scaled = exactly_at_one _ _ tt tt refl refl;
+  strike_scaled = exactly_at_one _ _ tt tt refl refl;
   first_quotient = refl;
   second_quotient = refl;
   first_reply = refl;

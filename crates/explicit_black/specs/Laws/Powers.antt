@@ -229,17 +229,18 @@ far_refused = refl
 ratio_over : (p f k : Float) → T (finite p) → T (le plus_zero p) → PairInRange f k → NotOver f k → (NotOver k f → ⊥) → RatioOver p f k
 ratio_over p f k a b r h i = record { price_finite = a; price_not_negative = b; in_range = r; forward_not_over = h; strike_over = i }
 
-pub four_times : (x y : Float) → T (finite x) → T (finite y) → num y * den x * four_down (pos 1) ≡ num x * den y * four_up (pos 1)
+-- `Exactly` for the n of 1, from the fraction as it states it
+pub exactly_at_one : (x y : Float) → T (finite x) → T (finite y) → num y * den x * four_down (pos 1) ≡ num x * den y * four_up (pos 1)
     → is_sign_minus y ≡ is_sign_minus x → Exactly (pos 1) x y
-four_times x y a b e s = record { finite_x = a; finite_y = b; fraction = e; signs = inr s }
+exactly_at_one x y a b e s = record { finite_x = a; finite_y = b; fraction = e; signs = inr s }
 
 pub ratio_limited : BeyondRatio far_price far_forward far_strike four_far_price four_far_forward four_far_strike
 unfolding of_bits le is_eight
 ratio_limited = record {
   first_over = ratio_over far_price far_forward far_strike tt tt (pair_in_range _ _ tt tt tt tt) (lit≤ tt) (λ h. le→leb _ _ h);
   second_over = ratio_over four_far_price four_far_forward four_far_strike tt tt (pair_in_range _ _ tt tt tt tt) (lit≤ tt) (λ h. le→leb _ _ h);
-  price_fourfold = four_times far_price four_far_price tt tt refl refl;
-  forward_fourfold = four_times far_forward four_far_forward tt tt refl refl;
-  strike_fourfold = four_times far_strike four_far_strike tt tt refl refl;
+  price_fourfold = exactly_at_one far_price four_far_price tt tt refl refl;
+  forward_fourfold = exactly_at_one far_forward four_far_forward tt tt refl refl;
+  strike_fourfold = exactly_at_one far_strike four_far_strike tt tt refl refl;
   differ = λ e. true≢false (sym (ap eight far_refused) ∙ ap eight (e ∙ far_searched) ∙ price_not_eight _ _);
 }

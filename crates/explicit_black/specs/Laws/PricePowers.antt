@@ -21,7 +21,7 @@ use Rattle.bs_option_price.specs.BsOptionPrice.{normalised_black_with_optimal_us
 use Rattle.explicit_black.specs.Quote.{first_refusal}
 use Rattle.explicit_black.specs.Price.{PriceReply, price, price_refusal, time_value, price_of, black_price, BothAboveOrZero}
 use Rattle.explicit_black.specs.Demand.{Exactly, ComparablePair}
-use Rattle.explicit_black.specs.Laws.Powers.{comparable_pair, times_two, four_times}
+use Rattle.explicit_black.specs.Laws.Powers.{comparable_pair, times_two, exactly_at_one}
 
 -- ---- the price at time 1, and its time value, ready to be computed
 unfoldable pub price_at_one : ℕ → Float → Float → Float → PriceReply
@@ -109,8 +109,8 @@ unfolding price_at_one
 least_price_differs = record {
   first_comparable = comparable_pair _ _ tt tt tt tt (lit≤ tt) (lit≤ tt);
   second_comparable = comparable_pair _ _ tt tt tt tt (lit≤ tt) (lit≤ tt);
-  forward_scaled = four_times _ _ tt tt refl refl;
-  strike_scaled = four_times _ _ tt tt refl refl;
+  forward_scaled = exactly_at_one _ _ tt tt refl refl;
+  strike_scaled = exactly_at_one _ _ tt tt refl refl;
   first_price_lem = refl;
   second_price_lem = refl;
   values = record { first_finite = tt; second_finite = tt; at_least = (tt, tt) };
@@ -129,8 +129,8 @@ unfolding price_at_one
 value_term_needed = record {
   first_comparable = comparable_pair _ _ tt tt tt tt (lit≤ tt) (lit≤ tt);
   second_comparable = comparable_pair _ _ tt tt tt tt (lit≤ tt) (lit≤ tt);
-  forward_scaled = four_times _ _ tt tt refl refl;
-  strike_scaled = four_times _ _ tt tt refl refl;
+  forward_scaled = exactly_at_one _ _ tt tt refl refl;
+  strike_scaled = exactly_at_one _ _ tt tt refl refl;
   first_price_lem = refl;
   second_price_lem = refl;
   values = (tt, tt);

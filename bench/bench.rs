@@ -3,7 +3,7 @@
 //! ratios. Of ladders: ns a place by a call for the ladder, by a call for each quote, by the Rust, and two ratios. Of sheets: ns a quote by a
 //! call for each line of their text, by a call for each quote, by the Rust, and two ratios.
 //!
-//! usage: bench TARGET [PICTURE.svg]     TARGET: the folder with staticlib/libexports.a and bin/sheet
+//! usage: bench ROOT [PICTURE.svg]     ROOT: the folder with crates/exports/out/libexports.a and crates/sheet/out/sheet
 //!        bench --run ours|rust|platform      desk quotes of one of them alone, for callgrind
 //!        bench --run discounted              discounted desk quotes of ours
 //!        bench --run window                  desk quotes through the cable window
@@ -22,24 +22,24 @@ fn main() {
     let words: Vec<String> = std::env::args().skip(1).collect();
     match words.iter().map(String::as_str).collect::<Vec<_>>()[..] {
         ["--run", which] => footprint::run(which),
-        [target] => report(Path::new(target)),
-        [target, picture] => {
-            report(Path::new(target));
+        [root] => report(Path::new(root)),
+        [root, picture] => {
+            report(Path::new(root));
             std::fs::write(picture, plot::svg()).expect("the picture can be written");
         }
         _ => {
-            eprintln!("usage: bench TARGET [PICTURE.svg]");
+            eprintln!("usage: bench ROOT [PICTURE.svg]");
             std::process::exit(2)
         }
     }
 }
 
-fn report(target: &Path) {
+fn report(root: &Path) {
     timing::table();
     println!();
     ladder::table();
     println!();
     sheet::table();
     println!();
-    footprint::table(target);
+    footprint::table(root);
 }

@@ -272,7 +272,7 @@ fn print_stack(of: &str, calls: usize, allowed: usize, found: usize) {
     print(&format!("stack of a {of}, most of {calls} (painted), of {allowed}"), Some(found), "");
 }
 
-pub fn table(target: &Path) {
+pub fn table(root: &Path) {
     for which in ["ours", "rust", "platform"] {
         let found = instructions(which, QUOTES);
         print(&format!("instructions a desk quote, {which} (callgrind)"), found, "valgrind");
@@ -282,7 +282,7 @@ pub fn table(target: &Path) {
     let places = PLACES * ladder::LADDERS;
     print("instructions a place, ladder (callgrind)", instructions("ladder", places), "valgrind");
     print("instructions a place, its quote (callgrind)", instructions("quotes", places), "valgrind");
-    let library = sizes(&target.join("staticlib/libexports.a"));
+    let library = sizes(&root.join("crates/exports/out/libexports.a"));
     print("library: text, bytes", library.map(|[text, _]| text), "size");
     print("library: constants, bytes", library.map(|[_, constants]| constants), "size");
     print("library: both, of 98304", library.map(|[text, constants]| text + constants), "size");
@@ -293,6 +293,6 @@ pub fn table(target: &Path) {
     print_stack("price", PRICES * PRICE_KINDS.len(), 4096, prices_stack());
     print_stack("ladder", ladders.len(), quote + 256, ladders_stack(&ladders));
     print_stack("window", quotes.len(), quote + 256, windows_stack(&quotes));
-    let found = sheet_stack(&target.join("bin/sheet"), &target.join("bench/massif.out"));
-    print("stack of program sheet, 1,000 quotes (massif), of 57344", found, "valgrind or target/bin/sheet");
+    let found = sheet_stack(&root.join("crates/sheet/out/sheet"), &root.join("target/bench/massif.out"));
+    print("stack of program sheet, 1,000 quotes (massif), of 57344", found, "valgrind or crates/sheet/out/sheet");
 }

@@ -38,7 +38,7 @@ class Runs:
 
     def __init__(self, name, usage, inputs):
         self.name, self.usage, self.inputs = name, usage, inputs
-        self.program, self.failed = ROOT / "target/bin" / name, 0
+        self.program, self.failed = ROOT / "crates" / name / "out" / name, 0
 
     def stop(self, status, message):
         print(f"tests/{self.name}: {message}", file=sys.stderr)
@@ -53,7 +53,7 @@ class Runs:
             self.stop(2, f"{words[0]} is not there")
         self.program, self.inputs = pathlib.Path(words[0]).resolve() if words else self.program, int(words[1]) if words[1:] else self.inputs
         if not self.program.is_file():
-            self.stop(3, f"{self.program} is not built: run `rt check {self.name}`")
+            self.stop(3, f"{self.program} is not built: run `rt run` in crates/{self.name}")
 
     def run(self, **how):
         try:

@@ -75,7 +75,7 @@ class Entry:
     def __init__(self, tool, record, crate, names, results, defaults={}):
         self.tool, self.record, self.crate, self.names, self.results, self.defaults = tool, record, crate, names, results, defaults
         self.least = len(names) - len(defaults)
-        self.program = ROOT / "target/bin" / crate
+        self.program = ROOT / "crates" / crate / "out" / crate
 
     def stop(self, status, message):
         print(f"{self.tool}: {message}", file=sys.stderr)
@@ -136,16 +136,15 @@ class Entry:
     def build(self):
         if self.program.exists():
             return
-        name, check = f"target/bin/{self.crate}", f"rt check {self.crate}"
-        print(f"{self.tool}: {name} is missing; proving and building it ({check}), which takes minutes", file=sys.stderr)
-        # rt leaves a crate alone that its stamp says is proved, also where the program was removed
-        (ROOT / "target/stamp" / self.crate).unlink(missing_ok=True)
+        folder, name = ROOT / "crates" / self.crate, self.program.relative_to(ROOT)
+        print(f"{self.tool}: {name} is missing; proving and building it (rt run in crates/{self.crate}), which takes minutes", file=sys.stderr)
         try:
-            status = subprocess.run(check.split(), cwd=ROOT, stdout=sys.stderr).returncode
+            # what rt says of the proof comes on standard error; the program is run too, on no input
+            status = subprocess.run(["rt", "run"], cwd=folder, stdin=subprocess.DEVNULL, stdout=subprocess.DEVNULL).returncode
         except OSError as error:
             self.stop(3, f"rt: {error.strerror}")
         if status != 0 or not self.program.exists():
-            self.stop(3, f"{check} did not build {name}, or its run failed")
+            self.stop(3, f"rt run did not build {name}, or its run failed")
 
     def asked(self, given, whole, read, *how):
         """What `read`, with `how`, makes of the lines that the program prints for the bytes `given`; it has None for lines that do not answer `whole`."""

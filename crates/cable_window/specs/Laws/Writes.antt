@@ -1,9 +1,9 @@
--- What one write makes of a window: its length, the command's word, the words of side and figures, the reply and the results. Assumes nothing.
-use Rattle.std.specs.Prelude.{◌≡◌, ◌≢◌, List, Bool, true, false, cond, ◌||◌, T, eqb, length, Float}
+-- The parts of a write: its offset, and what a clear, a reply and a command make of the length, of the words of side and figures, of the reply and of the
+-- results. What a whole write makes of a window follows in proofs/Writes.antt. Assumes nothing.
+use Rattle.std.specs.Prelude.{◌≡◌, List, Bool, true, false, cond, ◌||◌, T, eqb, length, Float}
 use Rattle.std.proofs.Math.Path.{refl}
 use Rattle.std.proofs.Common.{sym, ap, ◌∙◌, true≢false, arith, eqb-true, ne_eqb, eqb→eq, leb→le, lit<, lit≤}
 use Prim.Native.Nat.{ℕ, ◌+◌, ◌*◌, ◌-◌, ◌%◌, ◌≤◌, ◌<◌, ◌^◌}
-use Rattle.std.proofs.lemmas.Bool.{eqb-false}
 use Rattle.std.specs.Float.{binary64}
 use Rattle.std.specs.Float.Ieee.{of_bits}
 use Rattle.std.specs.Float.Ieee.Bits.{to_bits-lt}
@@ -14,17 +14,17 @@ use Rattle.explicit_black.specs.Laws.Quote.{FiguresAreNumbers}
 use Rattle.xdr_sheet.specs.Xdr.{unsigned, double}
 use Rattle.cable_window.specs.Window.{window_bytes, command_at, status_at, side_at, price_at, forward_at, strike_at, time_at, total_at, volatility_at, count_at}
 use Rattle.cable_window.specs.Window.{is_quote_word, writable, bit, with_word, with_hyper, window_reply, with_results, with_reply, cleared, solved, commanded}
-use Rattle.cable_window.specs.Window.{without_interrupt, after_write, Write}
-use Rattle.cable_window.specs.Host.{AreBytes, commands, Results, results_in, results_of, interrupt_cleared}
+use Rattle.cable_window.specs.Window.{without_interrupt, after_write}
+use Rattle.cable_window.specs.Host.{Results, results_in, results_of, interrupt_cleared}
 use Rattle.cable_window.specs.Laws.Fits.{ReplyFits, reply_fits, reply_numbers}
-use Rattle.cable_window.specs.Laws.Bytes.{bytes_with_word, length_with_word, length_with_hyper, Apart, read_same, read_other, read_past_hyper}
+use Rattle.cable_window.specs.Laws.Bytes.{length_with_word, length_with_hyper, Apart, read_same, read_other, read_past_hyper}
 use Rattle.cable_window.specs.Laws.Bytes.{hyper_words, hyper_same, hyper_other, hyper_past_hyper}
 
 -- ---- a write by its offset
-quote_word_facts : (o : ℕ) → T (is_quote_word o) → (o % 4 ≡ 0) × (8 ≤ o) × (o ≤ 40)
+pub quote_word_facts : (o : ℕ) → T (is_quote_word o) → (o % 4 ≡ 0) × (8 ≤ o) × (o ≤ 40)
 quote_word_facts o f = search (and_l, and_r, eqb→eq, leb→le)
 
-quote_word_writable : (at : ℕ) → T (is_quote_word at) → writable at ≡ true
+pub quote_word_writable : (at : ℕ) → T (is_quote_word at) → writable at ≡ true
 quote_word_writable at = go (eqb at command_at) (is_quote_word at)
   where
     go : (a b : Bool) → T b → (a || b) ≡ true
@@ -33,11 +33,11 @@ quote_word_writable at = go (eqb at command_at) (is_quote_word at)
     go false false f = absurd f
 
 -- an offset that is refused is none that is writable
-refused_other : (o at : ℕ) → writable o ≡ false → writable at ≡ true → eqb o at ≡ false
+pub refused_other : (o at : ℕ) → writable o ≡ false → writable at ≡ true → eqb o at ≡ false
 refused_other o at f t = ne_eqb o at (λ e. true≢false (sym t ∙ ap writable (sym e) ∙ f))
 
 -- it is refused, a command, or a word of side and figures
-by_offset : (P : List ℕ → Type 0) (s : List ℕ) (o w : ℕ) → (writable o ≡ false → P s) → (o ≡ command_at → P (commanded s w))
+pub by_offset : (P : List ℕ → Type 0) (s : List ℕ) (o w : ℕ) → (writable o ≡ false → P s) → (o ≡ command_at → P (commanded s w))
     → (T (is_quote_word o) → P (with_word s o w)) → P (after_write s o w)
 unfolding after_write
 by_offset P s o w refused command figure =
@@ -45,14 +45,14 @@ by_offset P s o w refused command figure =
     (λ t. by_test P (eqb o command_at) (λ z. command (eqb-true o command_at z)) (λ z. figure (let f : is_quote_word o ≡ true = rw z at t in rw f tt)))
     refused
 
--- ---- what every write of a word outside of side and figures keeps, a command keeps
+-- ---- what every write of a word outside of side and figures keeps, a clear and a reply keep
 
 -- the word at `at` ends at 8 or before, or starts at 44 or after
-abbrev Outside : ℕ → Type 0
+abbrev pub Outside : ℕ → Type 0
 Outside at = 0 < (5 - at) + (at - 43)
 
 module _ (P : List ℕ → Type 0) (step : (t : List ℕ) (at w : ℕ) → Outside at → P t → P (with_word t at w)) where
-  keeps_cleared : (s : List ℕ) (c : ℕ) → P s → P (cleared s c)
+  pub keeps_cleared : (s : List ℕ) (c : ℕ) → P s → P (cleared s c)
   unfolding cleared
   keeps_cleared s c p = in_both P (eqb (bit 1 c) 1) (step s status_at _ (lit< tt) p) p
 
@@ -66,73 +66,28 @@ module _ (P : List ℕ → Type 0) (step : (t : List ℕ) (at w : ℕ) → Outsi
       step _ count_at count (lit< tt)
       (keeps_hyper _ volatility_at volatility (lit< tt) (lit< tt) (keeps_hyper _ total_at total (lit< tt) (lit< tt) (step s status_at status (lit< tt) p)))
 
-  keeps_reply : (s : List ℕ) (r : Reply) → P s → P (with_reply s r)
+  pub keeps_reply : (s : List ℕ) (r : Reply) → P s → P (with_reply s r)
   keeps_reply s (answer total volatility count) p = keeps_results s _ _ _ _ p
   keeps_reply s (refusal number count) p = keeps_results s _ _ _ _ p
 
-  keeps_solved : (s : List ℕ) (c : ℕ) → P s → P (solved s c)
-  unfolding solved
-  keeps_solved s c p = in_both P (eqb (bit 0 c) 1) (keeps_reply s (window_reply s) p) p
-
-  keeps_commanded : (s : List ℕ) (c : ℕ) → P s → P (commanded s c)
-  unfolding commanded
-  keeps_commanded s c p = step _ command_at 0 (lit< tt) (keeps_solved (cleared s c) c (keeps_cleared s c p))
-
 -- ---- the length
 module _ (s : List ℕ) where
-  abbrev AsLong : List ℕ → Type 0
+  abbrev pub AsLong : List ℕ → Type 0
   AsLong t = length t ≡ length s
 
-  keeps_length : (t : List ℕ) (at w : ℕ) → Outside at → AsLong t → AsLong (with_word t at w)
+  pub keeps_length : (t : List ℕ) (at w : ℕ) → Outside at → AsLong t → AsLong (with_word t at w)
   keeps_length t at w h e = length_with_word t at w ∙ e
 
-  length_cleared : (c : ℕ) → length (cleared s c) ≡ length s
+  pub length_cleared : (c : ℕ) → length (cleared s c) ≡ length s
   length_cleared c = keeps_cleared AsLong keeps_length s c refl
-
-  length_solved : (c : ℕ) → length (solved (cleared s c) c) ≡ length s
-  length_solved c = keeps_solved AsLong keeps_length (cleared s c) c (length_cleared c)
-
-  pub length_write : (o w : ℕ) → length (after_write s o w) ≡ length s
-  length_write o w = by_offset AsLong s o w (λ _. refl) (λ _. keeps_commanded AsLong keeps_length s w refl) (λ _. length_with_word s o w)
-
--- ---- its bytes
-pub bytes_write : (s : List ℕ) (o w : ℕ) → AreBytes s → AreBytes (after_write s o w)
-bytes_write s o w k =
-    by_offset AreBytes s o w (λ _. k) (λ _. keeps_commanded AreBytes (λ t at v _. bytes_with_word t at v) s w k) (λ _. bytes_with_word s o w k)
-
--- ---- the command's word
-module _ (s : List ℕ) (l : length s ≡ window_bytes) where
-  pub commanded_zero : (c : ℕ) → unsigned (commanded s c) command_at ≡ 0
-  unfolding commanded
-  commanded_zero c = read_same (solved (cleared s c) c) command_at 0 (omega (arith, length_solved s c)) (lit< tt)
-
-  pub zero_write : (o w : ℕ) → unsigned s command_at ≡ 0 → unsigned (after_write s o w) command_at ≡ 0
-  zero_write o w e =
-      by_offset (λ t. unsigned t command_at ≡ 0) s o w (λ _. e) (λ _. commanded_zero w)
-      (λ f. let k = quote_word_facts o f in read_other s o w command_at (omega arith) ∙ e)
 
 -- ---- a word of side and figures
 module _ (s : List ℕ) (at : ℕ) (f : T (is_quote_word at)) where
-  abbrev SameQuoteWord : List ℕ → Type 0
+  abbrev pub SameQuoteWord : List ℕ → Type 0
   SameQuoteWord t = unsigned t at ≡ unsigned s at
 
-  keeps_quote_word : (t : List ℕ) (b w : ℕ) → Outside b → SameQuoteWord t → SameQuoteWord (with_word t b w)
+  pub keeps_quote_word : (t : List ℕ) (b w : ℕ) → Outside b → SameQuoteWord t → SameQuoteWord (with_word t b w)
   keeps_quote_word t b w h e = let k = quote_word_facts at f in read_other t b w at (omega arith) ∙ e
-
-  pub quote_word_write : (o w : ℕ) → length s ≡ window_bytes → w < 2 ^ 32 → unsigned (after_write s o w) at ≡ cond (eqb o at) w (unsigned s at)
-  quote_word_write o w l h =
-      let k = quote_word_facts at f in
-      by_offset (λ t. unsigned t at ≡ cond (eqb o at) w (unsigned s at)) s o w (λ r. rw (refused_other o at r (quote_word_writable at f)))
-      (λ z. rw (ne_eqb o at (λ e. omega arith)) (keeps_commanded SameQuoteWord keeps_quote_word s w refl))
-      (λ g. let j = quote_word_facts o g in
-      by_test (λ n. unsigned (with_word s o w) at ≡ n) (eqb o at) (λ t. rw (← eqb-true o at t) (read_same s o w (omega arith) h))
-      (λ t. let n : o ≢ at = eqb-false o at t in read_other s o w at (omega arith)))
-
--- a write of one leaves every other word as it was
-pub quote_word_alone : (s : List ℕ) (o w at : ℕ) → T (is_quote_word o) → at % 4 ≡ 0 → at ≢ o → unsigned (after_write s o w) at ≡ unsigned s at
-quote_word_alone s o w at f e n =
-    let k = quote_word_facts o f in
-    by_offset (λ t. unsigned t at ≡ unsigned s at) s o w (λ _. refl) (λ z. omega arith) (λ _. read_other s o w at (omega arith))
 
 -- ---- the reply, by the words of side and figures
 abbrev double_of : (ℕ → ℕ) → ℕ → Float
@@ -155,7 +110,7 @@ reply_by_lem s l =
       hyper_words s time_at (omega arith),
     )
 
-reply_cleared : (s : List ℕ) (c : ℕ) → length s ≡ window_bytes → window_reply (cleared s c) ≡ window_reply s
+pub reply_cleared : (s : List ℕ) (c : ℕ) → length s ≡ window_bytes → window_reply (cleared s c) ≡ window_reply s
 reply_cleared s c l =
     reply_by_lem (cleared s c) (length_cleared s c ∙ l)
     ∙ same_reply (unsigned (cleared s c)) (unsigned s) (λ at f. keeps_cleared (SameQuoteWord s at f) (keeps_quote_word s at f) s c refl)
@@ -186,7 +141,7 @@ pub results_fit : (s : List ℕ) → ResultsFit (results_of (window_reply s))
 results_fit s = fits_of (window_reply s) (reply_fits s) (reply_numbers s)
 
 module _ (s : List ℕ) (r : Results) where
-  abbrev shown : List ℕ
+  abbrev pub shown : List ℕ
   shown = with_results s r.status r.total r.volatility r.count
 
   abbrev status_there : List ℕ
@@ -202,7 +157,7 @@ module _ (s : List ℕ) (r : Results) where
   unfolding with_results
   shown_is = refl
 
-  results_shown : length s ≡ window_bytes → ResultsFit r → results_in shown ≡ r
+  pub results_shown : length s ≡ window_bytes → ResultsFit r → results_in shown ≡ r
   results_shown l f =
       let a = length_with_word s status_at r.status in
       let b = length_with_hyper status_there total_at r.total in
@@ -221,12 +176,12 @@ module _ (s : List ℕ) (r : Results) where
         read_same volatility_there count_at r.count (omega arith) f.count_fits,
       )
 
-with_reply_lem : (s : List ℕ) (r : Reply) → with_reply s r ≡ shown s (results_of r)
+pub with_reply_lem : (s : List ℕ) (r : Reply) → with_reply s r ≡ shown s (results_of r)
 with_reply_lem s (answer total volatility count) = refl
 with_reply_lem s (refusal number count) = refl
 
 -- a word of side and figures, and the command's, is none of them
-results_other : (s : List ℕ) (at w : ℕ) → at ≤ 40 → Apart at status_at → results_in (with_word s at w) ≡ results_in s
+pub results_other : (s : List ℕ) (at w : ℕ) → at ≤ 40 → Apart at status_at → results_in (with_word s at w) ≡ results_in s
 results_other s at w h g =
     rw (
       read_other s at w status_at g,
@@ -235,21 +190,13 @@ results_other s at w h g =
       read_other s at w count_at (omega arith),
     )
 
-commanded_results : (s : List ℕ) (c : ℕ) → results_in (commanded s c) ≡ results_in (solved (cleared s c) c)
+pub commanded_results : (s : List ℕ) (c : ℕ) → results_in (commanded s c) ≡ results_in (solved (cleared s c) c)
 unfolding commanded
 commanded_results s c = results_other (solved (cleared s c) c) command_at 0 (lit≤ tt) (lit≤ tt)
 
-pub solve_results : (s : List ℕ) (c : ℕ) → length s ≡ window_bytes → bit 0 c ≡ 1 → results_in (after_write s command_at c) ≡ results_of (window_reply s)
-unfolding after_write
-solve_results s c l e =
-    let t = cleared s c in
-    commanded_results s c
-    ∙ rw (e, with_reply_lem t (window_reply t)) (results_shown t (results_of (window_reply t)) (length_cleared s c ∙ l) (results_fit t))
-    ∙ ap results_of (reply_cleared s c l)
-
--- ---- the results after a write that does not solve
+-- ---- the results after a clear, and after a command that does not solve
 module _ (s : List ℕ) (l : length s ≡ window_bytes) (h : unsigned s status_at < 2 ^ 32) where
-  cleared_results : (c : ℕ) → results_in (cleared s c) ≡ interrupt_cleared (eqb (bit 1 c) 1) (results_in s)
+  pub cleared_results : (c : ℕ) → results_in (cleared s c) ≡ interrupt_cleared (eqb (bit 1 c) 1) (results_in s)
   unfolding cleared
   cleared_results c = go (eqb (bit 1 c) 1)
     where
@@ -266,14 +213,6 @@ module _ (s : List ℕ) (l : length s ≡ window_bytes) (h : unsigned s status_a
           )
       go false = refl
 
-  unsolved : (t : List ℕ) (c : ℕ) → eqb (bit 0 c) 1 ≡ false → solved t c ≡ t
+  pub unsolved : (t : List ℕ) (c : ℕ) → eqb (bit 0 c) 1 ≡ false → solved t c ≡ t
   unfolding solved
   unsolved t c e = rw e
-
-  pub kept_write : (w : Write) → commands 0 w ≡ false → results_in (after_write s w.offset w.word) ≡ interrupt_cleared (commands 1 w) (results_in s)
-  kept_write w e =
-      let o = w.offset in
-      by_offset (λ t. results_in t ≡ interrupt_cleared (commands 1 w) (results_in s)) s o w.word
-      (λ r. rw (refused_other o command_at r refl))
-      (λ z. commanded_results s w.word ∙ rw (unsolved (cleared s w.word) w.word (rw z at e), z) (cleared_results w.word))
-      (λ f. let k = quote_word_facts o f in rw (ne_eqb o command_at (λ z. omega arith)) (results_other s o w.word (omega arith) (omega arith)))

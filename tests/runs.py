@@ -111,7 +111,7 @@ class Runs:
             return file.read()
 
     def failures(self):
-        """A read that fails prints nothing; a write that fails or is short leaves a part of the text and nothing else, and the exit status is 1."""
+        """A read that fails prints nothing; a write that fails or is short leaves a part of the text and nothing else; of a full device the exit status is 1."""
         folder = os.open("/", os.O_RDONLY)
         runs = [(self.run(stdin=folder, stdout=subprocess.PIPE).stdout, b"")]
         os.close(folder)

@@ -111,7 +111,7 @@ class Runs:
             return file.read()
 
     def failures(self):
-        """A read that fails prints nothing; a write that fails or is short leaves a part of the text and nothing else."""
+        """A read that fails prints nothing; a write that fails or is short leaves a part of the text and nothing else; of a full device the exit status is 1."""
         folder = os.open("/", os.O_RDONLY)
         runs = [(self.run(stdin=folder, stdout=subprocess.PIPE).stdout, b"")]
         os.close(folder)
@@ -119,19 +119,19 @@ class Runs:
         data, right = self.kept()
         runs += [(self.text_in_file(data, most), right[:most]) for most in (0, 1, 6000, len(right) - 1)]
         with open("/dev/full", "wb") as full:
-            runs.append((b"%d" % self.run(input=data, stdout=full).returncode, b"0"))
+            runs.append((b"%d" % self.run(input=data, stdout=full).returncode, b"1"))
         return runs
 
     def unwritten(self):
-        """Of input without end, all zeros, the program ends where it cannot write: to a full device, or to a pipe that nobody reads."""
+        """Of input without end, all zeros, the program ends with status 1 where it cannot write: to a full device, or to a pipe that nobody reads."""
         with open("/dev/zero", "rb") as endless:
             with open("/dev/full", "wb") as full:
-                runs = [(b"%d" % self.run(stdin=endless, stdout=full).returncode, b"0")]
-            # The signal ends it; where that is ignored, as by this process, the write fails.
-            for restored, status in [(True, -signal.SIGPIPE), (False, 0)]:
+                runs = [(b"%d" % self.run(stdin=endless, stdout=full).returncode, b"1")]
+            # The program ignores the signal, whether or not it was started with it ignored, as by this process: the write fails.
+            for restored in (True, False):
                 reader, writer = os.pipe()
                 os.close(reader)
-                runs.append((b"%d" % self.run(stdin=endless, stdout=writer, restore_signals=restored).returncode, b"%d" % status))
+                runs.append((b"%d" % self.run(stdin=endless, stdout=writer, restore_signals=restored).returncode, b"1"))
                 os.close(writer)
         return runs
 

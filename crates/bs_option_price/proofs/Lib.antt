@@ -1,3 +1,4 @@
--- Laws that only the proofs of this crate need.
+-- Laws that only the proofs of this crate need, and the computed tests of the table.
 pub mod Thresholds
 pub mod Expansion
+pub mod TableTests

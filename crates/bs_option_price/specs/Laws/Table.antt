@@ -12,7 +12,7 @@ table_has_153_entries = refl
 -- ---- a test at every entry
 
 -- the test passes at each number below n
-unfoldable all_below : ℕ → (ℕ → Bool) → Bool
+unfoldable pub all_below : ℕ → (ℕ → Bool) → Bool
 all_below zero test = true
 all_below (suc n) test = test 0 && all_below n (λ i. test (suc i))
 
@@ -24,7 +24,7 @@ at_each (suc n) test t (suc i) h =
     at_each n (λ j. test (suc j)) (and_r (test 0) (all_below n (λ j. test (suc j))) t) i (le_of_suc-le-suc h)
 
 -- the test passes at the coefficient of e ^ j in ak for each k below 17 and each j up to k
-unfoldable all_entries : (ℕ → ℕ → Bool) → Bool
+unfoldable pub all_entries : (ℕ → ℕ → Bool) → Bool
 unfolding all_below
 all_entries test = all_below 17 (λ k. all_below (suc k) (test k))
 
@@ -45,7 +45,7 @@ coefficient_follows_rule = at_entry follows_rule all_follow_rule
 
 -- ---- more than REQUIREMENTS 9 asks: each entry is the binary64 nearest to the exact coefficient
 
-abbrev is_nearest : ℕ → ℕ → Bool
+abbrev pub is_nearest : ℕ → ℕ → Bool
 is_nearest k j = eqb (entry k j) (nearest_entry k j)
 
 pub entry_is_nearest : (k j : ℕ) → k < 17 → j ≤ k → entry k j ≡ nearest_entry k j

@@ -41,7 +41,7 @@ ab_small z h =
     (lit≤ tt) (lit≤ tt))
     (lit≤ tt)
 
-cd_small : (y : Float) → Plus 3 y → Small 44 (cd y)
+pub cd_small : (y : Float) → Plus 3 y → Small 44 (cd y)
 unfolding cd of_bits
 cd_small y h =
     small_div
@@ -50,7 +50,7 @@ cd_small y h =
     (between_widen 13 (between_add h (between_of 0 4 (D at 0) tt) (lit≤ tt) (lit≤ tt)) (lit≤ tt)) (lit≤ tt) (lit≤ tt) (lit≤ tt))
     (lit≤ tt)
 
-pq_small : (z : Float) → Plus 0 z → Small 14 (pq z)
+pub pq_small : (z : Float) → Plus 0 z → Small 14 (pq z)
 unfolding pq of_bits
 pq_small z h =
     small_div
@@ -65,7 +65,7 @@ four_value : HasValue four false 4 1
 unfolding of_bits
 four_value = (refl, refl)
 
-past_four : (y : Float) → Plus 3 y → le y four ≡ false → 4 * den y ≤ num y
+pub past_four : (y : Float) → Plus 3 y → le y four ≡ false → 4 * den y ≤ num y
 past_four y h l = elim (lt_or_le (num y) (4 * den y)) [
   | inl k ↦ absurd (true≢false (sym (is_true (le y four)
       (le_of_values y four (num y) (den y) 4 1 (den_pos y) (pow_pos 0) (of_cross y false (num y) (den y) h.small.is_finite_lem h.sign refl) four_value

@@ -1,4 +1,4 @@
--- `normal_distribution::Expansion::goes_on_lem` meets its contract: both parts of the test, in the definition's order. Assumes nothing.
+-- `normal_distribution::Expansion::goes_on` meets its contract: both parts of the test, in the definition's order. Assumes nothing.
 use Rattle.special_function.specs.NormalDistribution.{goes_on}
 use Rattle.special_function.proofs.normal_distribution.Expansion.goes_on.Goals as goal
 

@@ -16,8 +16,8 @@ pub record Upper (w i r e rest : ℕ) : Type 0 where
 abbrev pub Small : ℕ → ℕ → ℕ → Type 0
 Small r e rest = (r < 9007199254740992) × (e ≤ 2 * r) × (rest < 18014398509481984)
 
-pub small : (w i r e rest : ℕ) → Upper w i r e rest → i ≤ 53 → Small r e rest
-small w i r e rest u h = (lt_of_lt_of_le u.r_lt (pow_mono h), u.e_le, u.rest_lt)
+pub small : {w i r e rest : ℕ} → Upper w i r e rest × (i ≤ 53) → Small r e rest
+small h = (lt_of_lt_of_le h.0.r_lt (pow_mono h.1), h.0.e_le, h.0.rest_lt)
 
 pub upper_none : (w : ℕ) → w < 18014398509481984 → Upper w 0 0 0 w
 upper_none w h = record { value = omega arith; rest_lt = h; e_le = omega arith; r_lt = omega arith }

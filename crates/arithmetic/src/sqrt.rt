@@ -37,75 +37,81 @@ const ROOT_BIAS: u64 = 1021;
 // The pattern of 2^-537, the root of the smallest value above 0.
 const LOWEST_ROOT: u64 = 0x1e60_0000_0000_0000;
 
-// Whether q is the whole number nearest to √(w * 2^52): true only if it is, and nearly always if it is. With d the lower
-// 26 binary digits of q, s those above, and v = (w - s²) * 2^26 + s - 2sd, w * 2^52 - q² + q = v * 2^26 + d - d².
-fn is_closest(w: u64, q: u64) -> bool
-    requires { Radicand w }
-    ensures { T result → Closest w q }
-{
-    if TWO_TO_53 <= q {
-        return false;
-    }
-    let s = q / TWO_TO_26;
-    let d = q % TWO_TO_26;
-    if w < s * s {
-        return false;
-    }
-    let e = w - s * s;
-    if TWO_TO_28 <= e {
-        return false;
-    }
-    let n = e * TWO_TO_26 + s;
-    let t = 2 * s * d;
-    if n < t {
-        return false;
-    }
-    let v = n - t;
-    if TWO_TO_30 <= v {
-        return false;
-    }
-    let a = v * TWO_TO_26 + d;
-    if a <= d * d {
-        return false;
-    }
-    a <= d * d + 2 * q
+// The leading digits w of a number under the root: the whole roots looked for are those of w * 2^52.
+#[derive(Clone, Copy)]
+pub struct LeadingDigits {
+    w: u64,
+    ghost in_range: { Radicand w },
 }
 
-// The whole number nearest to √(w * 2^52). Each iteration takes two binary digits more of w * 2^52 and finds one of
-// the root: r is the whole root of those taken, e how much they are above r², and rest the digits of w to come.
-fn by_digits(w: u64) -> u64
-    requires { Radicand w }
-    ensures { Closest w result }
-{
-    let mut r = 0;
-    let mut e = 0;
-    let mut rest = w;
-    for _ in 0u32..53 {
-        e = 4 * e + rest / TWO_TO_52;
-        rest = rest % TWO_TO_52 * 4;
-        r = 2 * r;
-        if 2 * r < e {
-            e = e - 2 * r - 1;
-            r += 1;
+impl LeadingDigits {
+    // Whether q is the whole number nearest to √(w * 2^52): true only if it is, and nearly always if it is. With d the lower
+    // 26 binary digits of q, s those above, and v = (w - s²) * 2^26 + s - 2sd, w * 2^52 - q² + q = v * 2^26 + d - d².
+    fn is_closest(self, q: u64) -> bool
+        ensures { T result → Closest self.w q }
+    {
+        if TWO_TO_53 <= q {
+            return false;
         }
+        let s = q / TWO_TO_26;
+        let d = q % TWO_TO_26;
+        if self.w < s * s {
+            return false;
+        }
+        let e = self.w - s * s;
+        if TWO_TO_28 <= e {
+            return false;
+        }
+        let n = e * TWO_TO_26 + s;
+        let t = 2 * s * d;
+        if n < t {
+            return false;
+        }
+        let v = n - t;
+        if TWO_TO_30 <= v {
+            return false;
+        }
+        let a = v * TWO_TO_26 + d;
+        if a <= d * d {
+            return false;
+        }
+        a <= d * d + 2 * q
     }
-    if r < e { r + 1 } else { r }
-}
 
-// The whole number nearest to √(w * 2^52), by an estimate q: where q is not nearest, a neighbour of it nearly always is.
-fn closest(w: u64, q: u64) -> u64
-    requires { Radicand w }
-    ensures { Closest w result }
-{
-    let above = std::num::wrapping_add_u64(q, 1);
-    if is_closest(w, above) {
-        return above;
+    // The whole number nearest to √(w * 2^52). Each iteration takes two binary digits more of w * 2^52 and finds one of
+    // the root: r is the whole root of those taken, e how much they are above r², and rest the digits of w to come.
+    fn by_digits(self) -> u64
+        ensures { Closest self.w result }
+    {
+        let mut r = 0;
+        let mut e = 0;
+        let mut rest = self.w;
+        for _ in 0u32..53 {
+            e = 4 * e + rest / TWO_TO_52;
+            rest = rest % TWO_TO_52 * 4;
+            r = 2 * r;
+            if 2 * r < e {
+                e = e - 2 * r - 1;
+                r += 1;
+            }
+        }
+        if r < e { r + 1 } else { r }
     }
-    let below = std::num::wrapping_sub_u64(q, 1);
-    if is_closest(w, below) {
-        return below;
+
+    // The whole number nearest to √(w * 2^52), by an estimate q: where q is not nearest, a neighbour of it nearly always is.
+    fn closest(self, q: u64) -> u64
+        ensures { Closest self.w result }
+    {
+        let above = std::num::wrapping_add_u64(q, 1);
+        if self.is_closest(above) {
+            return above;
+        }
+        let below = std::num::wrapping_sub_u64(q, 1);
+        if self.is_closest(below) {
+            return below;
+        }
+        self.by_digits()
     }
-    by_digits(w)
 }
 
 // An estimate of the whole number nearest to √(w * 2^52), for the w of the normal x with pattern b: nearest for all but
@@ -139,14 +145,16 @@ fn of_normal(b: u64) -> f64
     let q = estimate(b);
     let k = (ROOT_BIAS + b / TWO_TO_52) / 2;
     let digits = b % TWO_TO_53;
-    let mut w = digits;
-    if digits < TWO_TO_52 {
-        w = 2 * digits + TWO_TO_53;
-    }
-    if is_closest(w, q) {
+    let w = if digits < TWO_TO_52 {
+        2 * digits + TWO_TO_53
+    } else {
+        digits
+    };
+    let radicand = LeadingDigits { w };
+    if radicand.is_closest(q) {
         return f64::from_bits(k * TWO_TO_52 + q);
     }
-    f64::from_bits(k * TWO_TO_52 + closest(w, q))
+    f64::from_bits(k * TWO_TO_52 + radicand.closest(q))
 }
 
 // The f64 nearest to √x. A zero is its own root, with its sign, and anything else below zero has none. A subnormal x

@@ -4,15 +4,14 @@ use denote.Floats.{passes}
 use lib.Ieee.{binary64, of_bits}
 use Rattle.arithmetic.specs.Sqrt.{sqrt}
 use Rattle.arithmetic.specs.Laws.Patterns.{built_no_nan}
-use Rattle.arithmetic.specs.Internal.Sqrt.{Radicand, Closest}
+use Rattle.arithmetic.specs.Internal.Sqrt.{Closest}
 use Rattle.arithmetic.proofs.SqrtPaths.{pattern_at}
 use Rattle.arithmetic.proofs.sqrt.of_normal.Goals as goal
 use Rattle.arithmetic.proofs.sqrt.of_normal.Goals.{then-digits-lt-TWO_TO_52, else-digits-lt-TWO_TO_52}
 
-pub is_closest-requires : goal.is_closest-requires
-is_closest-requires c =
-    let radicand : Radicand c.if-digits-lt-TWO_TO_52.w = elim c.if-digits-lt-TWO_TO_52.branch [ then-digits-lt-TWO_TO_52 h ↦ omega arith | else-digits-lt-TWO_TO_52 h ↦ omega arith ] in
-    radicand
+pub invariant_of-radicand : goal.invariant_of-radicand
+invariant_of-radicand c =
+    elim c.if-digits-lt-TWO_TO_52.branch [ then-digits-lt-TWO_TO_52 h ↦ omega arith | else-digits-lt-TWO_TO_52 h ↦ omega arith ]
 
 pub overflow_add-result : goal.overflow_add-result
 overflow_add-result c =
@@ -36,11 +35,6 @@ returns-then-is_closest c =
     ] in
     let nearest : Closest c.if-digits-lt-TWO_TO_52.w c.estimate-q.result = c.is_closest.ensures (passes _ c.if-is_closest.true) in
     pattern _ nearest
-
-pub closest-requires : goal.closest-requires
-closest-requires c =
-    let radicand : Radicand c.if-digits-lt-TWO_TO_52.w = elim c.if-digits-lt-TWO_TO_52.branch [ then-digits-lt-TWO_TO_52 h ↦ omega arith | else-digits-lt-TWO_TO_52 h ↦ omega arith ] in
-    radicand
 
 pub float_from_bits-result-2 : goal.float_from_bits-result-2
 float_from_bits-result-2 c = built_no_nan _ _ (omega arith) c.closest.ensures.2

@@ -1,57 +1,24 @@
--- `sqrt::by_digits` meets its contract, by the laws of `SqrtDigits`. The invariant: r is the whole root of the upper digits. The measure is the
+-- `LeadingDigits::by_digits` meets its contract, by the laws of `SqrtDigits`. The invariant: r is the whole root of the upper digits. The measure is the
 -- iterations that are left. Assumes nothing.
 use Rattle.std.proofs.Common.{arith}
-use Rattle.arithmetic.proofs.SqrtDigits.{Small, small, upper_none, next_0, next_1, nearest_above, nearest_itself, closest_of}
-use Rattle.arithmetic.proofs.sqrt.by_digits.Goals as goal
-use Rattle.arithmetic.proofs.sqrt.by_digits.Goals.{then-r-e, else-r-e}
+use Rattle.arithmetic.proofs.SqrtDigits.{small, upper_none, next_0, next_1, nearest_above, nearest_itself, closest_of}
+use Rattle.arithmetic.proofs.sqrt.LeadingDigits.by_digits.Goals as goal
+use Rattle.arithmetic.proofs.sqrt.LeadingDigits.by_digits.Goals.{then-r-e, else-r-e}
 
 pub loop-init : goal.loop-init
 loop-init c = (upper_none _ (omega arith), omega arith)
 
 pub overflow_mul-e : goal.overflow_mul-e
-overflow_mul-e c =
-    let bound : Small c.loop.r c.loop.e c.loop.rest = small _ _ _ _ _ c.loop.invariant.0 c.loop.invariant.1 in
-    omega (arith, bound)
+overflow_mul-e c = let bound = small c.loop.invariant in omega (arith, bound)
 
 pub overflow_add-e : goal.overflow_add-e
-overflow_add-e c =
-    let bound : Small c.loop.r c.loop.e c.loop.rest = small _ _ _ _ _ c.loop.invariant.0 c.loop.invariant.1 in
-    omega (arith, bound)
-
-pub overflow_mul-rest : goal.overflow_mul-rest
-overflow_mul-rest c =
-    let bound : Small c.loop.r c.loop.e c.loop.rest = small _ _ _ _ _ c.loop.invariant.0 c.loop.invariant.1 in
-    omega (arith, bound)
-
-pub overflow_mul-r : goal.overflow_mul-r
-overflow_mul-r c =
-    let bound : Small c.loop.r c.loop.e c.loop.rest = small _ _ _ _ _ c.loop.invariant.0 c.loop.invariant.1 in
-    omega (arith, bound)
+overflow_add-e c = let bound = small c.loop.invariant in omega (arith, bound)
 
 pub overflow_mul-r-in-loop : goal.overflow_mul-r-in-loop
-overflow_mul-r-in-loop c =
-    let bound : Small c.loop.r c.loop.e c.loop.rest = small _ _ _ _ _ c.loop.invariant.0 c.loop.invariant.1 in
-    omega (arith, bound)
+overflow_mul-r-in-loop c = let bound = small c.loop.invariant in omega (arith, bound)
 
 pub overflow_mul-e-then-r-e : goal.overflow_mul-e-then-r-e
-overflow_mul-e-then-r-e c =
-    let bound : Small c.loop.r c.loop.e c.loop.rest = small _ _ _ _ _ c.loop.invariant.0 c.loop.invariant.1 in
-    omega (arith, bound)
-
-pub overflow_sub-e : goal.overflow_sub-e
-overflow_sub-e c =
-    let bound : Small c.loop.r c.loop.e c.loop.rest = small _ _ _ _ _ c.loop.invariant.0 c.loop.invariant.1 in
-    omega (arith, bound)
-
-pub overflow_sub-e-then-r-e : goal.overflow_sub-e-then-r-e
-overflow_sub-e-then-r-e c =
-    let bound : Small c.loop.r c.loop.e c.loop.rest = small _ _ _ _ _ c.loop.invariant.0 c.loop.invariant.1 in
-    omega (arith, bound)
-
-pub overflow_add-r : goal.overflow_add-r
-overflow_add-r c =
-    let bound : Small c.loop.r c.loop.e c.loop.rest = small _ _ _ _ _ c.loop.invariant.0 c.loop.invariant.1 in
-    omega (arith, bound)
+overflow_mul-e-then-r-e c = let bound = small c.loop.invariant in omega (arith, bound)
 
 pub loop-preserved : goal.loop-preserved
 loop-preserved c = let upper = c.loop.invariant.0 in (
@@ -59,13 +26,8 @@ loop-preserved c = let upper = c.loop.invariant.0 in (
   omega arith,
 )
 
-pub overflow_add-result : goal.overflow_add-result
-overflow_add-result c =
-    let bound : Small c.loop.r c.loop.e c.loop.rest = small _ _ _ _ _ c.loop.invariant.0 c.loop.invariant.1 in
-    omega (arith, bound)
-
 pub returns-then-r-e-2 : goal.returns-then-r-e-2
-returns-then-r-e-2 c = closest_of c.args.w _ c.requires (nearest_above _ _ _ _ _ c.loop.invariant.0 (omega arith) c.if-r-e-2.true)
+returns-then-r-e-2 c = closest_of c.args.self.w _ c.args.self.in_range (nearest_above _ _ _ _ _ c.loop.invariant.0 (omega arith) c.if-r-e-2.true)
 
 pub returns-else-r-e-2 : goal.returns-else-r-e-2
-returns-else-r-e-2 c = closest_of c.args.w _ c.requires (nearest_itself _ _ _ _ _ (omega arith) c.loop.invariant.0 (omega arith) c.if-r-e-2.false)
+returns-else-r-e-2 c = closest_of c.args.self.w _ c.args.self.in_range (nearest_itself _ _ _ _ _ (omega arith) c.loop.invariant.0 (omega arith) c.if-r-e-2.false)

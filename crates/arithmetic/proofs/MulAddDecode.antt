@@ -1,5 +1,6 @@
 -- What `decode` of `mul_add` gives: a finite value by the fields of its bit pattern. Assumes nothing.
-use Rattle.std.proofs.Common.{◌≡◌, ℕ, suc, ◌+◌, ◌-◌, ◌*◌, ◌/◌, ◌^◌, ◌<◌, Bool, T, leb, ℤ, pos, negsuc, ◌+ℤ◌, sym, refl, ◌∙◌, subst, add_comm, arith, lit≤}
+use Rattle.std.proofs.Common.{◌≡◌, ℕ, suc, ◌+◌, ◌-◌, ◌*◌, ◌/◌, ◌^◌, ◌<◌, ◌≤◌, Bool, T, leb, ℤ, pos, negsuc, ◌+ℤ◌, sym, refl, ◌∙◌, subst, add_comm, arith, lit≤}
+use Rattle.std.proofs.lemmas.Int.{ints}
 use lib.Pow.{field}
 use lib.Bits.{bit_and, and_mask, mask_lt}
 use lib.Ieee.{Float, binary64, fits, of_fields, to_bits}
@@ -7,9 +8,9 @@ use lib.Ieee.Exact.{HasValue}
 use lib.Ieee.Scale.{finite}
 use lib.Ieee.Bits.{of_bits-to_bits}
 use Rattle.arithmetic.specs.Internal.Exponent.{above}
-use Rattle.arithmetic.specs.Internal.MulAdd.{OperandExponent, Decoded}
+use Rattle.arithmetic.specs.Internal.MulAdd.{OperandExponent}
 use Rattle.arithmetic.specs.Laws.Patterns.{of_bits_is, read_zero, read_more, finite_field}
-use Rattle.arithmetic.proofs.Exponents.{Counted, counted_sum, counted_from, counted_is, exponent_is}
+use Rattle.arithmetic.proofs.Exponents.{counted, exponent_is}
 
 module _ (x : Float) (F : T (fits binary64 x)) (h : T (finite x)) where
   abbrev b : ℕ
@@ -42,36 +43,39 @@ module _ (x : Float) (F : T (fits binary64 x)) (h : T (finite x)) where
       subst (λ (v : Float). HasValue v s ((2 ^ 52 + t) * 2 ^ j) (2 ^ 1074)) (read_back (suc j) e)
       (read_more s j t (subst (λ (y : ℕ). y < 2047) e field_lt))
 
-  pub decoded_subnormal : f ≡ 0 → (j : ℤ) → OperandExponent j → above 1074 j ≡ 0 → Decoded x (record { negative = s; m = t; j = j })
-  decoded_subnormal e j J i =
+  -- of any other field the exponent is -1075 more
+  pub field_exponent : (f ≡ 0 → ⊥) → (j : ℤ) → j ≡ pos f +ℤ negsuc 1074 → OperandExponent j × (above 1074 j ≡ f - 1)
+  field_exponent n j J =
+      let l = field_lt in
+      let o = exponent_is 1074 971 j (lit≤ tt) (lit≤ tt) (omega (arith, ints)) (omega (arith, ints)) in
+      (o, omega (arith, ints, (counted o).0))
+
+  -- ---- what the magnitude m * 2 ^ j of x has, as `Parts` asks
+  pub record Read (m : ℕ) (j : ℤ) : Type 0 where
+    pub value : HasValue x s (m * 2 ^ above 1074 j) (2 ^ 1074)
+    pub small : m < 2 ^ 53
+    pub exponent : OperandExponent j
+    pub lead : 0 < above 1074 j → 2 ^ 52 ≤ m
+
+  pub read_subnormal : f ≡ 0 → Read t (negsuc 1073)
+  read_subnormal e =
       let a = mask_lt b 52 in
       record {
-        value = subst (λ (k : ℕ). HasValue x s (t * 2 ^ k) (2 ^ 1074)) (sym i) (value_subnormal e);
+        value = value_subnormal e;
         small = omega arith;
-        exponent = J;
-        lead = λ h. omega arith;
+        exponent = exponent_is 1074 971 (negsuc 1073) (lit≤ tt) (lit≤ tt) (omega (arith, ints)) (omega (arith, ints));
+        lead = λ h. absurd (omega arith);
       }
 
-  -- of any other field the exponent is -1075 more
-  module _ (n : f ≡ 0 → ⊥) where
-    abbrev j : ℤ
-    j = pos f +ℤ negsuc 1074
-
-    counted_field : Counted 1074 j (f - 1)
-    counted_field = counted_from 1075 (f + 0) 1074 (f - 1) j (omega arith) (counted_sum 0 1075 f 0 (pos f) (negsuc 1074) (omega arith) refl)
-
-    pub field_exponent : OperandExponent j
-    field_exponent = let l = field_lt in exponent_is 1074 971 1074 (f - 1) j (lit≤ tt) (lit≤ tt) counted_field (omega arith) (omega arith)
-
-    pub decoded_normal : Decoded x (record { negative = s; m = t + 2 ^ 52; j = j })
-    decoded_normal =
-        let a = mask_lt b 52 in
-        let i : f - 1 ≡ above 1074 j = sym (counted_is 1074 (f - 1) j counted_field) in
-        record {
-          value =
-              subst (λ (k : ℕ). HasValue x s ((t + 2 ^ 52) * 2 ^ k) (2 ^ 1074)) i
-              (subst (λ (m : ℕ). HasValue x s (m * 2 ^ (f - 1)) (2 ^ 1074)) (add_comm (2 ^ 52) t) (value_normal (f - 1) (omega arith)));
-          small = omega arith;
-          exponent = field_exponent;
-          lead = λ h. omega arith;
-        }
+  pub read_normal : (f ≡ 0 → ⊥) → (j : ℤ) → j ≡ pos f +ℤ negsuc 1074 → Read (t + 2 ^ 52) j
+  read_normal n j J =
+      let a = mask_lt b 52 in
+      let (o, i) = field_exponent n j J in
+      record {
+        value =
+            subst (λ (k : ℕ). HasValue x s ((t + 2 ^ 52) * 2 ^ k) (2 ^ 1074)) (sym i)
+            (subst (λ (m : ℕ). HasValue x s (m * 2 ^ (f - 1)) (2 ^ 1074)) (add_comm (2 ^ 52) t) (value_normal (f - 1) (omega arith)));
+        small = omega arith;
+        exponent = o;
+        lead = λ h. omega arith;
+      }

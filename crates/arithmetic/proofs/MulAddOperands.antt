@@ -1,16 +1,16 @@
 -- `mul_add` by the kinds of its operands, as `mul_add` tells them apart, and by the parts that `decode` gives of finite ones. Assumes nothing.
-use Rattle.std.proofs.Common.{◌≡◌, ℕ, ◌*◌, ◌^◌, Bool, true, false, cond, eqb, ℤ, sym, refl, ap, ◌∙◌, true≢false, mul_assoc, mul_comm, mul-pos, mul_left_comm, pow_pos, pow-add}
+use Rattle.std.proofs.Common.{◌≡◌, ℕ, ◌*◌, ◌^◌, Bool, true, false, ◌&&◌, cond, eqb, sym, refl, ap, ◌∙◌, true≢false, mul_assoc, mul_comm, mul-pos, mul_left_comm, pow_pos, pow-add}
 use mathlib.Core.Bool.{false≢true}
 use native.Mathlib.Nat.{mul-mul-mul_comm}
 use lib.Ieee.{Float, nan, inf, fin, binary64, up, down, unlike, add, mul, sum}
 use lib.Ieee.Fits.{down_pos}
 use lib.Ieee.Exact.{HasValue}
 use lib.Ieee.Scale.{finite}
-use Rattle.arithmetic.specs.declared.pair.Pair.{Pair}
 use Rattle.arithmetic.specs.declared.mul_add.Parts.{Parts}
+use Rattle.arithmetic.specs.declared.mul_add.Term.{Term}
 use Rattle.arithmetic.specs.Internal.Pair.{val}
 use Rattle.arithmetic.specs.Internal.Exponent.{above}
-use Rattle.arithmetic.specs.Internal.MulAdd.{Decoded, ProductExponent}
+use Rattle.arithmetic.specs.Internal.MulAddSteps.{Decoded, IsProduct}
 use Rattle.arithmetic.specs.MulAdd.{mul_add, infinity_plus}
 use Rattle.arithmetic.specs.Laws.Sums.{sum_same}
 use Rattle.arithmetic.proofs.MulAddAlign.{above_term}
@@ -26,7 +26,7 @@ unless : (z s : Bool) (b : Float) → add binary64 (cond z nan (inf s)) b ≡ co
 unless true s b = unfold add in refl
 unless false s b = infinity_plus_is s b
 
-pub first_special : (x a b : Float) → finite x ≡ false → add binary64 (mul binary64 x a) b ≡ mul_add x a b
+first_special : (x a b : Float) → finite x ≡ false → add binary64 (mul binary64 x a) b ≡ mul_add x a b
 unfolding mul_add mul add
 first_special nan a b h = refl
 first_special (inf s) nan b h = refl
@@ -34,13 +34,21 @@ first_special (inf s) (inf t) b h = infinity_plus_is (unlike s t) b
 first_special (inf s) (fin t n d) b h = unless (eqb n 0) (unlike s t) b
 first_special (fin s m e) a b h = absurd (true≢false h)
 
-pub second_special : (x a b : Float) → finite x ≡ true → finite a ≡ false → add binary64 (mul binary64 x a) b ≡ mul_add x a b
+second_special : (x a b : Float) → finite x ≡ true → finite a ≡ false → add binary64 (mul binary64 x a) b ≡ mul_add x a b
 unfolding mul_add mul add
 second_special nan a b h k = absurd (false≢true h)
 second_special (inf s) a b h k = absurd (false≢true h)
 second_special (fin s m e) nan b h k = refl
 second_special (fin s m e) (inf t) b h k = unless (eqb m 0) (unlike s t) b
 second_special (fin s m e) (fin t n d) b h k = absurd (true≢false k)
+
+-- where the product of x and a is none of finite values
+pub product_special : (x a b : Float) → (finite x && finite a) ≡ false → add binary64 (mul binary64 x a) b ≡ mul_add x a b
+product_special x a b h = go (finite x) refl h
+  where
+    go : (f : Bool) → finite x ≡ f → (f && finite a) ≡ false → add binary64 (mul binary64 x a) b ≡ mul_add x a b
+    go true e k = second_special x a b e k
+    go false e k = first_special x a b e
 
 pub third_special : (x a b : Float) → finite x ≡ true → finite a ≡ true → finite b ≡ false → b ≡ mul_add x a b
 unfolding mul_add
@@ -83,24 +91,24 @@ in_units_lem (fin s' m e) (fin t' n d) (fin u' k g) s t u x a b p q r =
     (addend_cross (k * up g) (down g) (2 ^ 1074) b (down e) (down d) r.1)
     ∙ rw (p.0, q.0, r.0)
 
--- with their parts, and with a product p and its exponent e
-pub mul_add_of_parts : {X A B : Float} (x a b : Parts) (p : Pair) (e : ℤ) → Decoded X x → Decoded A a → Decoded B b
-    → val p ≡ x.m * a.m → ProductExponent x a e
-    → sum binary64 (unlike x.negative a.negative) (val p * 2 ^ above 2148 e) b.negative (b.m * 2 ^ above 2148 b.j) (2 ^ 2148)
+-- with their parts, and with the product p
+pub mul_add_of_parts : (X A B : Float) (x a b : Parts) (p : Term) → Decoded X x → Decoded A a → Decoded B b → IsProduct x a p
+    → sum binary64 (unlike x.negative a.negative) (val p.v * 2 ^ above 2148 p.e.value) b.negative (b.m * 2 ^ above 2148 b.j.value) (2 ^ 2148)
     ≡ mul_add X A B
-mul_add_of_parts {X} {A} {B} x a b p e hx ha hb P E =
+mul_add_of_parts X A B x a b p hx ha hb P =
     let s = unlike x.negative a.negative in
     let t = b.negative in
-    let i = above 1074 x.j in
-    let j = above 1074 a.j in
-    let k = above 1074 b.j in
-    let product : x.m * 2 ^ i * (a.m * 2 ^ j) ≡ val p * 2 ^ above 2148 e =
+    let e = above 2148 p.e.value in
+    let i = above 1074 x.j.value in
+    let j = above 1074 a.j.value in
+    let k = above 1074 b.j.value in
+    let product : x.m * 2 ^ i * (a.m * 2 ^ j) ≡ val p.v * 2 ^ e =
     mul-mul-mul_comm x.m (2 ^ i) a.m (2 ^ j)
     ∙ ap (λ (y : ℕ). x.m * a.m * y) (sym (pow-add 2 i j))
-    ∙ sym (ap (λ (y : ℕ). y * 2 ^ above 2148 e) P ∙ E.value) in
-    let addend : b.m * 2 ^ k * 2 ^ 1074 ≡ b.m * 2 ^ above 2148 b.j =
+    ∙ sym (ap (λ (y : ℕ). y * 2 ^ e) P.whole ∙ P.scale.value) in
+    let addend : b.m * 2 ^ k * 2 ^ 1074 ≡ b.m * 2 ^ above 2148 b.j.value =
     mul_assoc b.m (2 ^ k) (2 ^ 1074)
-    ∙ ap (λ (y : ℕ). b.m * y) (sym (ap (λ (y : ℕ). 2 ^ y) (above_term b.j hb.exponent) ∙ pow-add 2 k 1074)) in
-    sym (in_units_lem X A B x.negative a.negative t (x.m * 2 ^ i) (a.m * 2 ^ j) (b.m * 2 ^ k) hx.value ha.value hb.value
+    ∙ ap (λ (y : ℕ). b.m * y) (sym (ap (λ (y : ℕ). 2 ^ y) (above_term b.j.value b.exponent) ∙ pow-add 2 k 1074)) in
+    sym (in_units_lem X A B x.negative a.negative t (x.m * 2 ^ i) (a.m * 2 ^ j) (b.m * 2 ^ k) hx ha hb
     ∙ ap (λ (y : ℕ). sum binary64 s y t (b.m * 2 ^ k * 2 ^ 1074) (2 ^ 2148)) product
-    ∙ ap (λ (y : ℕ). sum binary64 s (val p * 2 ^ above 2148 e) t y (2 ^ 2148)) addend)
+    ∙ ap (λ (y : ℕ). sum binary64 s (val p.v * 2 ^ e) t y (2 ^ 2148)) addend)

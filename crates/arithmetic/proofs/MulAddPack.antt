@@ -1,6 +1,6 @@
 -- What `round_guarded` and `pack` of `mul_add` give: m / 4 to the nearest whole number q, and the bit pattern of q * 2 ^ k units, for a q of 53 digits, or
 -- fewer where k is 0: k * 2 ^ 52 + q below the sign. Assumes nothing.
-use Rattle.std.proofs.Common.{◌≡◌, ℕ, suc, ◌+◌, ◌-◌, ◌*◌, ◌/◌, ◌%◌, ◌^◌, ◌<◌, ◌≤◌, Bool, true, false, cond, ◌⊎◌, sym, refl, ap, ◌∙◌, subst, inl, inr, le_trans, le_of_eq, lt_of_le_of_lt, mul-le-mul_right, mod-eq_of_lt, eq-zero-or-pos, add-one, arith, lit<, pow_pos, pow_mono, pow-add, le-ltb, lt-ltb}
+use Rattle.std.proofs.Common.{◌≡◌, ℕ, suc, ◌+◌, ◌-◌, ◌*◌, ◌/◌, ◌%◌, ◌^◌, ◌<◌, ◌≤◌, min, Bool, true, false, cond, ◌⊎◌, sym, refl, ap, ◌∙◌, subst, inl, inr, le_trans, le_of_eq, lt_of_le_of_lt, mul-le-mul_right, mod-eq_of_lt, eq-zero-or-pos, add-one, arith, lit<, pow_pos, pow_mono, pow-add, le-ltb, lt-ltb}
 use Prim.Native.Nat.{compare}
 use lib.Bits.{bit_and, and_mask}
 use lib.Ieee.{Float, inf, binary64, odd, units, of_fields, of_bits}
@@ -102,25 +102,42 @@ magnitude k q = k * 2 ^ 52 % 2 ^ 64 + q
 
 pub record Packed (m k q : ℕ) : Type 0 where
   pub fits : magnitude k q < 2 ^ 64
-  pub finite : (s : Bool) → magnitude k q < 2047 * 2 ^ 52 → of_bits binary64 (cond s (2 ^ 63) 0 + magnitude k q) ≡ units binary64 s (closest m 4) k
-  pub infinite : (s : Bool) → 2047 * 2 ^ 52 ≤ magnitude k q → of_bits binary64 (cond s (2 ^ 63) 0 + 2047 * 2 ^ 52) ≡ units binary64 s (closest m 4) k
+  pub value : (s : Bool) → of_bits binary64 (cond s (2 ^ 63) 0 + min (magnitude k q) (2047 * 2 ^ 52)) ≡ units binary64 s (closest m 4) k
 
 pub packed : (m k q : ℕ) → m < 2 ^ 55 → k ≤ 3091 → (0 < k → 2 ^ 54 ≤ m) → q ≡ closest m 4 → Packed m k q
-packed m k q M K lead e =
-    let n = closest m 4 in
-    let is : magnitude k q ≡ k * 2 ^ 52 + n = ap (λ (x : ℕ). x + q) (mod-eq_of_lt (shifted k K)) ∙ ap (λ (x : ℕ). k * 2 ^ 52 + x) e in
-    let most = round_guarded_most m M in
-    let least : 0 < k → 2 ^ 52 ≤ n = λ p. round_guarded_least m (lead p) in
-    record {
-      fits = room k n (magnitude k q) K most is;
-      finite = λ s h.
-          ap (λ (x : ℕ). of_bits binary64 (cond s (2 ^ 63) 0 + x)) is
-          ∙ finite_pattern n k most least s (subst (λ (x : ℕ). x < 2047 * 2 ^ 52) is h);
-      infinite = λ s h. infinite_pattern n k most least s (subst (λ (x : ℕ). 2047 * 2 ^ 52 ≤ x) is h);
-    }
+packed m k q M K lead e = record {
+  fits = room k n (magnitude k q) K most is;
+  value = λ s. rw is (go s (lt_or_le (k * 2 ^ 52 + n) (2047 * 2 ^ 52)));
+}
   where
+    n : ℕ
+    n = closest m 4
+
+    most : n ≤ 2 ^ 53
+    most = round_guarded_most m M
+
+    least : 0 < k → 2 ^ 52 ≤ n
+    least p = round_guarded_least m (lead p)
+
     shifted : (k : ℕ) → k ≤ 3091 → k * 4503599627370496 < 18446744073709551616
     shifted k h = omega arith
 
+    is : magnitude k q ≡ k * 2 ^ 52 + n
+    is = ap (λ (x : ℕ). x + q) (mod-eq_of_lt (shifted k K)) ∙ ap (λ (x : ℕ). k * 2 ^ 52 + x) e
+
     room : (k q x : ℕ) → k ≤ 3091 → q ≤ 9007199254740992 → x ≡ k * 4503599627370496 + q → x < 18446744073709551616
     room k q x a b d = omega arith
+
+    bits : Bool → ℕ → Float
+    bits s x = of_bits binary64 (cond s (2 ^ 63) 0 + x)
+
+    lower : (x y : ℕ) → x < y → min x y ≡ x
+    lower x y h = omega arith
+
+    upper : (x y : ℕ) → y ≤ x → min x y ≡ y
+    upper x y h = omega arith
+
+    go : (s : Bool) → (k * 2 ^ 52 + n < 2047 * 2 ^ 52) ⊎ (2047 * 2 ^ 52 ≤ k * 2 ^ 52 + n)
+        → bits s (min (k * 2 ^ 52 + n) (2047 * 2 ^ 52)) ≡ units binary64 s n k
+    go s (inl h) = ap (bits s) (lower (k * 2 ^ 52 + n) (2047 * 2 ^ 52) h) ∙ finite_pattern n k most least s h
+    go s (inr h) = ap (bits s) (upper (k * 2 ^ 52 + n) (2047 * 2 ^ 52) h) ∙ infinite_pattern n k most least s h

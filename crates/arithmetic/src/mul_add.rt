@@ -1,25 +1,33 @@
 // x * a + b, rounded once: IEEE 754-2019's fusedMultiplyAdd.
-ghost use Rattle.std.specs.Prelude.{◌≡◌, ◌+◌, ◌-◌, ◌*◌, ◌^◌, ◌<◌, ◌≤◌, ◌&&◌, T, if◌then◌else◌};
+ghost use Rattle.std.specs.Prelude.{◌≡◌, ◌+◌, ◌-◌, ◌*◌, ◌^◌, ◌<◌, ◌≤◌, T, if◌then◌else◌};
 ghost use Rattle.std.specs.Float.Ieee as Ieee;
 ghost use Rattle.std.specs.Float.{binary64};
 ghost use Rattle.std.specs.Float.Ieee.Scale.{finite};
 ghost use Rattle.std.specs.Float.Ieee.Nearest.{closest};
 ghost use Rattle.arithmetic.specs.Internal.Pair.{val};
 ghost use Rattle.arithmetic.specs.Internal.Exponent.{above};
-ghost use Rattle.arithmetic.specs.Internal.MulAdd.{OperandExponent, TermExponent, KeptExponent};
-ghost use Rattle.arithmetic.specs.Internal.MulAdd.{Decoded, ProductExponent, Operands, Aligned, LastDigit, IsGuarded};
+ghost use Rattle.arithmetic.specs.Internal.MulAdd.{OperandExponent, TermExponent, KeptExponent, LastDigit};
 ghost use Rattle.arithmetic.specs.MulAdd.{mul_add};
 
 use super::basic::is_finite;
+use super::exponent::Exponent;
 use super::format::{
     FIELD_OFFSET, FRACTION_DIGITS, FRACTION_FIELD, INFINITY, LEAST_EXPONENT, MIN_EXP, PRECISION,
     SIGN, TWO_TO_52,
 };
 use super::pair::{Pair, WORD};
-use super::{exponent, pair};
 
-// The smallest product above 0 is 2^LEAST_PRODUCT_EXPONENT: twice LEAST_EXPONENT.
-const LEAST_PRODUCT_EXPONENT: i16 = -2148;
+// The smallest value above 0 is 2^LEAST, and the smallest product 2^LEAST_PRODUCT: twice that exponent.
+const LEAST: Exponent = Exponent {
+    value: LEAST_EXPONENT,
+};
+
+const LEAST_PRODUCT: Exponent = Exponent { value: -2148 };
+
+// What the exponent of a normal value is above its field.
+const OFFSET: Exponent = Exponent {
+    value: FIELD_OFFSET,
+};
 
 // A product has 106 binary digits at most, and can be shifted up by so many within a pair.
 const HEADROOM: u64 = 20;
@@ -33,143 +41,216 @@ const GUARD_FIELD: u64 = 3;
 
 const TIE: u64 = 2;
 
-// The sign, and the magnitude m * 2^j.
+// An operand: the sign, and the magnitude m * 2^j.
 #[derive(Clone, Copy)]
-pub struct Parts {
-    pub negative: bool,
-    pub m: u64,
-    pub j: i16,
+struct Parts {
+    negative: bool,
+    m: u64,
+    j: Exponent,
+    ghost small: { m < 2 ^ 53 },
+    ghost exponent: { OperandExponent j.value },
+    ghost lead: { (0 < above 1074 j.value → 2 ^ 52 ≤ m) },
 }
 
-// Two terms on one scale: a * 2^e and b * 2^e.
-#[derive(Drop)]
-pub struct Terms {
-    pub a: Pair,
-    pub b: Pair,
-    pub e: i16,
+// The magnitude v * 2^e.
+#[derive(Clone, Copy)]
+struct Term {
+    v: Pair,
+    e: Exponent,
+    ghost exponent: { TermExponent e.value },
+}
+
+// Two magnitudes on one scale: a * 2^e and b * 2^e.
+#[derive(Clone, Copy)]
+struct Terms {
+    a: Pair,
+    b: Pair,
+    e: Exponent,
+    ghost small_a: { val a < 2 ^ 127 },
+    ghost small_b: { val b < 2 ^ 127 },
+    ghost exponent: { TermExponent e.value },
 }
 
 // m / 4 * 2^k, for an m of at most 55 digits: the last two are the guard digit and the sticky digit.
-#[derive(Drop)]
-pub struct Guarded {
-    pub m: u64,
-    pub k: i16,
+#[derive(Clone, Copy)]
+struct Guarded {
+    m: u64,
+    k: Exponent,
+    ghost short: { m < 2 ^ 55 },
+    ghost exponent: { KeptExponent k.value },
+    ghost lead: { (0 < above 1074 k.value → 2 ^ 54 ≤ m) },
 }
 
-// The parts of a finite x.
-fn decode(x: f64) -> Parts
-    requires { T (finite x) }
-    ensures { Decoded x result }
-{
-    let bits = f64::to_bits(x);
-    let negative = SIGN <= bits;
-    let field = exponent::field(bits);
-    let digits = bits & FRACTION_FIELD;
-    if field == 0 {
-        Parts {
-            negative,
-            m: digits,
-            j: LEAST_EXPONENT,
+impl Parts {
+    ghost use Rattle.arithmetic.specs.Internal.MulAddSteps.{Decoded, ProductExponent, IsProduct};
+
+    // The parts of a finite x.
+    fn decode(x: f64) -> Parts
+        requires { T (finite x) }
+        ensures { Decoded x result }
+    {
+        let bits = f64::to_bits(x);
+        let negative = SIGN <= bits;
+        let field = Exponent::field(bits);
+        let digits = bits & FRACTION_FIELD;
+        if field.value == 0 {
+            return Parts {
+                negative,
+                m: digits,
+                j: LEAST,
+            };
         }
-    } else {
         Parts {
             negative,
             m: digits + TWO_TO_52,
-            j: exponent::sum(field, FIELD_OFFSET),
+            j: field.sum(OFFSET),
+        }
+    }
+
+    // The exponent of the product with v: the least one for a product that is 0.
+    fn product_exponent(self, v: Parts) -> Exponent
+        ensures { ProductExponent self v result.value }
+    {
+        if self.m == 0 || v.m == 0 {
+            return LEAST_PRODUCT;
+        }
+        self.j.sum(v.j)
+    }
+
+    // The product of the magnitudes.
+    fn product(self, v: Parts) -> Term
+        ensures { IsProduct self v result }
+    {
+        Term {
+            v: Pair::product(self.m, v.m),
+            e: self.product_exponent(v),
         }
     }
 }
 
-// p * 2^ep and m * 2^em on one scale. What a term has below the scale is jammed into its last digit, which lies far
-// below the last digit of the rounded sum.
-fn align(p: Pair, ep: i16, m: u64, em: i16) -> Terms
-    requires { Operands (val p) ep m em }
-    ensures { Aligned (val p) ep m em result }
-{
-    let b = Pair { hi: 0, lo: m };
-    if ep <= em {
-        let d = exponent::distance(em, ep);
-        if d < WORD {
-            Terms {
-                a: p,
-                b: pair::up(b, d),
-                e: ep,
+impl Term {
+    ghost use Rattle.arithmetic.specs.Internal.MulAddSteps.{Aligned, IsGuarded};
+
+    // A product and an addend on one scale. What one has below the scale is jammed into its last digit, which lies far below
+    // the last digit of the rounded sum.
+    fn align(self, w: Parts) -> Terms
+        requires small { val self.v < 2 ^ 106 }
+        requires lead { (1074 < above 2148 self.e.value → 2 ^ 52 ≤ val self.v) }
+        ensures { Aligned self w result }
+    {
+        let b = Pair::from(w.m);
+        if self.e <= w.j {
+            let d = w.j.distance(self.e);
+            if d < WORD {
+                return Terms {
+                    a: self.v,
+                    b: b << d,
+                    e: self.e,
+                };
             }
-        } else {
-            Terms {
-                a: pair::jam(p, d - WORD),
-                b: Pair { hi: m, lo: 0 },
-                e: exponent::lowered(em, WORD),
-            }
+            return Terms {
+                a: self.v.jam(d - WORD),
+                b: b << WORD,
+                e: w.j.lowered(WORD),
+            };
         }
-    } else {
-        let d = exponent::distance(ep, em);
+        let d = self.e.distance(w.j);
         if d <= HEADROOM {
-            Terms {
-                a: pair::up(p, d),
+            return Terms {
+                a: self.v << d,
                 b,
-                e: em,
-            }
-        } else {
-            Terms {
-                a: pair::up(p, HEADROOM),
-                b: pair::jam(b, d - HEADROOM),
-                e: exponent::lowered(ep, HEADROOM),
-            }
+                e: w.j,
+            };
+        }
+        Terms {
+            a: self.v << HEADROOM,
+            b: b.jam(d - HEADROOM),
+            e: self.e.lowered(HEADROOM),
         }
     }
-}
 
-// v * 2^e, cut to the digits that a result keeps, the guard digit and the sticky digit. 2^end is the least power of two
-// above v * 2^e.
-fn to_guarded(v: Pair, e: i16) -> Guarded
-    requires { TermExponent e }
-    ensures { IsGuarded (val v * 2 ^ above 2148 e) result }
-{
-    let n = pair::digits(v);
-    if n == 0 {
-        return Guarded {
-            m: 0,
-            k: LEAST_EXPONENT,
-        };
+    // Cut to the digits that a result keeps, the guard digit and the sticky digit. 2^end is the least power of two above
+    // v * 2^e.
+    fn to_guarded(self) -> Guarded
+        ensures { IsGuarded (val self.v * 2 ^ above 2148 self.e.value) result }
+    {
+        let n = self.v.digits();
+        if n == 0 {
+            return Guarded { m: 0, k: LEAST };
+        }
+        let end = self.e.raised(n);
+        if MIN_EXP <= end.value {
+            self.to_guarded_above(end.lowered(PRECISION))
+        } else {
+            self.to_guarded_above(LEAST)
+        }
     }
-    let end = exponent::raised(e, n);
-    if MIN_EXP <= end {
-        to_guarded_above(v, e, exponent::lowered(end, PRECISION))
-    } else {
-        to_guarded_above(v, e, LEAST_EXPONENT)
-    }
-}
 
-// The guarded number of v * 2^e, where `at` is the exponent of the result's last digit: digits below the guard digit are
-// jammed into the sticky one, or zeros are appended.
-fn to_guarded_above(v: Pair, e: i16, at: i16) -> Guarded
-    requires { LastDigit (val v) e at }
-    ensures { IsGuarded (val v * 2 ^ above 2148 e) result }
-{
-    let sticky = exponent::lowered(at, GUARD_DIGITS);
-    if e <= sticky {
-        let m = pair::jam(v, exponent::distance(sticky, e));
-        Guarded { m: m.lo, k: at }
-    } else {
-        let m = v.lo << exponent::distance(e, sticky);
+    // The same, where `at` is the exponent of the result's last digit: digits below the guard digit are jammed into the
+    // sticky one, or zeros are appended.
+    fn to_guarded_above(self, at: Exponent) -> Guarded
+        requires { LastDigit (val self.v) self.e.value at.value }
+        ensures { IsGuarded (val self.v * 2 ^ above 2148 self.e.value) result }
+    {
+        let sticky = at.lowered(GUARD_DIGITS);
+        if self.e <= sticky {
+            let m = self.v.jam(sticky.distance(self.e));
+            return Guarded { m: m.lo, k: at };
+        }
+        let m = self.v.lo << self.e.distance(sticky);
         Guarded { m, k: at }
     }
+
+    // The nearest value, with a sign.
+    fn round(self, negative: bool) -> f64
+        ensures { result ≡ Ieee.round binary64 negative (val self.v * 2 ^ above 2148 self.e.value) (2 ^ 2148) }
+    {
+        self.to_guarded().pack(negative)
+    }
 }
 
-// m / 4 to the nearest whole number, a tie to the even one.
-fn round_guarded(m: u64) -> u64
-    requires { m < 2 ^ 55 }
-    ensures { result ≡ closest m 4 }
-{
-    let q = m >> GUARD_DIGITS;
-    let r = m & GUARD_FIELD;
-    if r < TIE {
-        q
-    } else if r == TIE {
-        q + (q & 1)
-    } else {
-        q + 1
+impl Terms {
+    // The sum with the signs s and t, rounded.
+    fn sum(self, s: bool, t: bool) -> f64
+        ensures { result ≡ Ieee.sum binary64 s (val self.a * 2 ^ above 2148 self.e.value)
+            t (val self.b * 2 ^ above 2148 self.e.value) (2 ^ 2148) }
+    {
+        let a = self.a;
+        let b = self.b;
+        let e = self.e;
+        if s == t {
+            Term { v: a + b, e }.round(s)
+        } else if a < b {
+            Term { v: b - a, e }.round(t)
+        } else {
+            Term { v: a - b, e }.round(s && b < a)
+        }
+    }
+}
+
+impl Guarded {
+    // m / 4 to the nearest whole number, a tie to the even one.
+    fn round(self) -> u64
+        ensures { result ≡ closest self.m 4 }
+    {
+        let q = self.m >> GUARD_DIGITS;
+        let r = self.m & GUARD_FIELD;
+        if r < TIE {
+            q
+        } else if r == TIE {
+            q + (q & 1)
+        } else {
+            q + 1
+        }
+    }
+
+    // Rounded to a whole number times 2^k, or to an infinity. How far k lies above the least exponent is the exponent's
+    // field less 1, which the leading digit of a normal value adds; a carry out of the significand goes there too.
+    fn pack(self, negative: bool) -> f64
+        ensures { result ≡ Ieee.units binary64 negative (closest self.m 4) (above 1074 self.k.value) }
+    {
+        let magnitude = (self.k.distance(LEAST) << FRACTION_DIGITS) + self.round();
+        with_sign(negative, magnitude.min(INFINITY))
     }
 }
 
@@ -185,94 +266,20 @@ fn with_sign(negative: bool, magnitude: u64) -> f64
     }
 }
 
-// m / 4 * 2^k, rounded to a whole number times 2^k, or to an infinity. How far k lies above LEAST_EXPONENT is the
-// exponent's field less 1, which the leading digit of a normal value adds; a carry out of the significand goes there too.
-fn pack(negative: bool, m: u64, k: i16) -> f64
-    requires small_m { m < 2 ^ 55 }
-    requires kept { KeptExponent k }
-    requires normal { (0 < above 1074 k → 2 ^ 54 ≤ m) }
-    ensures { result ≡ Ieee.units binary64 negative (closest m 4) (above 1074 k) }
-{
-    let magnitude = (exponent::distance(k, LEAST_EXPONENT) << FRACTION_DIGITS) + round_guarded(m);
-    if magnitude < INFINITY {
-        with_sign(negative, magnitude)
-    } else {
-        with_sign(negative, INFINITY)
-    }
-}
-
-// v * 2^e, rounded.
-fn round_magnitude(negative: bool, v: Pair, e: i16) -> f64
-    requires { TermExponent e }
-    ensures { result ≡ Ieee.round binary64 negative (val v * 2 ^ above 2148 e) (2 ^ 2148) }
-{
-    let n = to_guarded(v, e);
-    pack(negative, n.m, n.k)
-}
-
-// Whether both are true.
-fn both(s: bool, t: bool) -> bool
-    ensures { result ≡ (s && t) }
-{
-    if s { t } else { false }
-}
-
-// The sum of two terms with their signs, rounded.
-fn sum_terms(s: bool, t: bool, w: Terms) -> f64
-    requires small_a { val w.a < 2 ^ 127 }
-    requires small_b { val w.b < 2 ^ 127 }
-    requires exponent_in_range { TermExponent w.e }
-    ensures { result ≡ Ieee.sum binary64 s (val w.a * 2 ^ above 2148 w.e) t (val w.b * 2 ^ above 2148 w.e) (2 ^ 2148) }
-{
-    let a = w.a;
-    let b = w.b;
-    let e = w.e;
-    if s == t {
-        round_magnitude(s, pair::add(a, b), e)
-    } else if pair::less(a, b) {
-        round_magnitude(t, pair::sub(b, a), e)
-    } else {
-        round_magnitude(both(s, pair::less(b, a)), pair::sub(a, b), e)
-    }
-}
-
-// The product's exponent: the least one for a product that is 0.
-fn product_exponent(u: Parts, v: Parts) -> i16
-    requires operand_exponent_1 { OperandExponent u.j }
-    requires operand_exponent_2 { OperandExponent v.j }
-    requires bound_1 { (0 < above 1074 u.j → 2 ^ 52 ≤ u.m) }
-    requires bound_2 { (0 < above 1074 v.j → 2 ^ 52 ≤ v.m) }
-    ensures { ProductExponent u v result }
-{
-    if u.m == 0 {
-        LEAST_PRODUCT_EXPONENT
-    } else if v.m == 0 {
-        LEAST_PRODUCT_EXPONENT
-    } else {
-        exponent::sum(u.j, v.j)
-    }
-}
-
 // x * a + b. Of finite x and a and a b that is not finite the result is b: the product by the operator could overflow.
 pub fn mul_add(x: f64, a: f64, b: f64) -> f64
     ensures { result ≡ mul_add x a b }
 {
-    if is_finite(x) {
-        if is_finite(a) {
-            if is_finite(b) {
-                let u = decode(x);
-                let v = decode(a);
-                let w = decode(b);
-                let p = pair::product(u.m, v.m);
-                let terms = align(p, product_exponent(u, v), w.m, w.j);
-                sum_terms(u.negative != v.negative, w.negative, terms)
-            } else {
-                b
-            }
-        } else {
-            x * a + b
-        }
-    } else {
-        x * a + b
+    if !is_finite(x) || !is_finite(a) {
+        return x * a + b;
     }
+    if !is_finite(b) {
+        return b;
+    }
+    let u = Parts::decode(x);
+    let v = Parts::decode(a);
+    let w = Parts::decode(b);
+    u.product(v)
+        .align(w)
+        .sum(u.negative != v.negative, w.negative)
 }

@@ -2,16 +2,16 @@
 use Rattle.std.proofs.Common.{◌≡◌, ℕ, zero, suc, ◌+◌, ◌-◌, ◌*◌, ◌/◌, ◌<◌, ◌≤◌, Bool, true, false, cond, T, pos, negsuc, sym, refl, ap, ◌∙◌, subst, true≢false, le_trans, le_of_eq, lt_of_le_of_lt, mul-le-mul_right, div-lt_iff_lt-mul, mul-pos, arith, lit≤, ltb-false, le-leb}
 use native.Mathlib.Nat.{mul-mul-mul_comm, min-eq_left}
 use borrow.Author.Tests.{lt-leb}
-use lib.Ieee.{up, down, Float, nan, inf, fin, binary64, minus, round, sum, lt, ne, fits, is_nan, of_bits, to_signed}
+use lib.Ieee.{up, down, Float, nan, inf, fin, binary64, minus, round, sum, lt, fits, is_nan, of_bits, to_signed}
 use lib.Ieee.Back.{positive_back, negative_back}
 use lib.Ieee.Exact.{HasValue}
 use lib.Ieee.Scale.{finite}
 use lib.Ieee.Positive.{num, den, den_pos, through}
+use Rattle.arithmetic.proofs.Methods.{nan_of}
 use Rattle.arithmetic.specs.Operations.{◌⊗◌, plus_zero, infinity}
 use Rattle.arithmetic.specs.Basic.{is_sign_minus, trunc}
 use Rattle.arithmetic.specs.Exp.{inv_ln2, o_threshold, u_threshold, half_away, reduced, scale_b, exp}
 use Rattle.arithmetic.specs.Internal.WholePart.{whole_part}
-use Rattle.arithmetic.specs.Laws.Signs.{is_nan_lem}
 use Rattle.arithmetic.specs.Laws.Sums.{add_is}
 use Rattle.arithmetic.specs.Laws.Bounds.{AtMost, round_at_most}
 use Rattle.arithmetic.specs.Laws.Sizes.{sum_alike}
@@ -171,7 +171,7 @@ signed_zero : to_signed 63 (round binary64 true 0 1) ≡ pos 0
 unfolding to_signed round
 signed_zero = refl
 
-whole_number : (s : Bool) (n : ℕ) → n ≤ 1075 → to_signed 63 (round binary64 s n 1) ≡ minus (biased_exponent s n) 1075
+pub whole_number : (s : Bool) (n : ℕ) → n ≤ 1075 → to_signed 63 (round binary64 s n 1) ≡ minus (biased_exponent s n) 1075
 whole_number false n h =
     ap (to_signed 63) (sym (of_int_pos n))
     ∙ (positive_back binary64 63 n (integer_fits n (le_trans h (lit≤ tt))) (lt_of_le_of_lt h (lit≤ tt))).1
@@ -187,8 +187,8 @@ exp_nan : exp nan ≡ nan
 unfolding exp is_nan
 exp_nan = refl
 
-pub exp_of_nan : (x : Float) → ne x x ≡ true → x ≡ exp x
-exp_of_nan x h = let e = is_nan_lem x h in e ∙ sym (ap exp e ∙ exp_nan)
+pub exp_of_nan : (x : Float) → true ≡ is_nan x → x ≡ exp x
+exp_of_nan x h = let e = nan_of x h in e ∙ sym (ap exp e ∙ exp_nan)
 
 module _ (x : Float) (n : is_nan x ≡ false) where
   pub exp_over : lt o_threshold x ≡ true → infinity ≡ exp x
@@ -200,7 +200,7 @@ module _ (x : Float) (n : is_nan x ≡ false) where
     unfolding exp
     exp_under l = rw (n, h, l) refl
 
-    exp_between : lt x u_threshold ≡ false → let k = trunc (half_away (is_sign_minus x) x) in exp x ≡ scale_b (reduced x k) (to_signed 63 k)
+    pub exp_between : lt x u_threshold ≡ false → let k = trunc (half_away (is_sign_minus x) x) in exp x ≡ scale_b (reduced x k) (to_signed 63 k)
     unfolding exp
     exp_between l = rw (n, h, l) refl
 
@@ -218,11 +218,3 @@ module _ (x : Float) (n : is_nan x ≡ false) where
         ap (scale_b (reduced x (round binary64 s m 1))) (sym (whole_number s m (le_trans (whole_part_le s w m K p) (most_le s))))
         ∙ ap (λ (z : Float). scale_b (reduced x z) (to_signed 63 z)) (sym k_is)
         ∙ sym (exp_between l)
-
-    -- with y and the biased exponent as the code computes them
-    pub exp_scaled : (l : lt x u_threshold ≡ false) (s : Bool) (w : Float) (m : ℕ) → s ≡ is_sign_minus x → w ≡ half_away s x → m ≡ whole_part w
-        → (y : Float) (e : ℕ) → y ≡ reduced x (round binary64 s m 1) → e ≡ biased_exponent s m → scale_b y (minus e 1075) ≡ exp x
-    exp_scaled l s w m d v p y e Y E =
-        ap (λ (z : Float). scale_b z (minus e 1075)) Y
-        ∙ ap (λ (i : ℕ). scale_b (reduced x (round binary64 s m 1)) (minus i 1075)) E
-        ∙ exp_is l s w m d v p

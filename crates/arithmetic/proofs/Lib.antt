@@ -12,6 +12,7 @@ mod MulAddOperands
 mod SqrtDigits
 mod SqrtPaths
 mod Trunc
+mod Methods
 mod MaxMin
 mod Integers
 mod ExpGeneral
@@ -20,4 +21,5 @@ mod LnBetween
 mod ExpZeroSign
 mod ExpPower
 mod ExpFast
+mod ExpExponent
 mod ExpNearZero

@@ -3,12 +3,13 @@ use Rattle.std.proofs.Common.{◌≡◌, ℕ, suc, ◌+◌, ◌-◌, ◌*◌, �
 use mathlib.Core.Bool.{false≢true}
 use borrow.Author.Tests.{lt-leb}
 use denote.Floats.{passes}
-use lib.Ieee.{Float, nan, inf, fin, binary64, up, down, minus, round, sum, add, sub, mul, of_int, fits, is_nan, lt, eq, le, ne, to_bits, of_bits}
+use lib.Ieee.{Float, nan, inf, fin, binary64, up, down, minus, round, sum, add, sub, mul, of_int, fits, is_nan, lt, eq, le, to_bits, of_bits}
 use lib.Ieee.Fits.{down_pos, add-fits}
 use lib.Ieee.Bits.{of_bits-to_bits}
 use lib.Ieee.Order.{round_mono}
 use lib.Ieee.Scale.{finite}
 use lib.Ieee.Positive.{num, den, den_pos, positive, positive-finite, first_pos, above_of_le, between, le→cross}
+use Rattle.arithmetic.proofs.Methods.{nan_of}
 use Rattle.arithmetic.specs.Operations.{◌⊕◌, ◌⊖◌, ◌⊗◌, ◌⊘◌, bits, plus_zero, half, one, two, min_positive, infinity}
 use Rattle.arithmetic.specs.Exp.{ln2_hi as H, ln2_lo as L}
 use Rattle.arithmetic.specs.Ln.{G1, G2, G3, G4, G5, G6, G7, series, ln, from_least, to_most, ln1p}
@@ -16,12 +17,14 @@ use Rattle.arithmetic.specs.Internal.Ln.{significand_of_bits, exponent_of_bits}
 use Rattle.arithmetic.specs.Laws.Numbers.{lt_or_le, false_not}
 use Rattle.arithmetic.specs.Laws.Times.{cross, has_sign, has_finite}
 use Rattle.arithmetic.specs.Laws.Compare.{above_zero, not_le, finite_no_nan}
-use Rattle.arithmetic.specs.Laws.Signs.{is_nan_lem}
 use Rattle.arithmetic.specs.Laws.Logarithm.{DecomposedBy, raised, normal_bits, subnormal_bits, raised_positive, decomposed_normal, decomposed_subnormal}
 use Rattle.arithmetic.specs.Laws.LnBounds.{ln_at}
 use Rattle.arithmetic.specs.Laws.Sums.{sum_same, difference_is}
 use Rattle.arithmetic.proofs.Integers.{integer_value}
-use Rattle.arithmetic.proofs.SqrtPaths.{zero_by_zero}
+
+nan_pattern : bits 0x7ff8_0000_0000_0000 ≡ nan
+unfolding of_bits
+nan_pattern = refl
 
 -- ---- the difference of two whole numbers is exact
 whole_difference : (n c : ℕ) → sum binary64 false n true c 1 ≡ of_int binary64 (minus n c)
@@ -71,12 +74,12 @@ absorbed s g o e kl f h n = rw (n, sum_nan g, product_nan s)
 abbrev pub odd_terms : Float → Float
 odd_terms f = let s = f ⊘ (two ⊕ f) in let z = s ⊗ s in let w = z ⊗ z in z ⊗ (G1 ⊕ w ⊗ (G3 ⊕ w ⊗ (G5 ⊕ w ⊗ G7)))
 
-pub series_nan : (f k kl : Float) → ne (odd_terms f) (odd_terms f) ≡ true → odd_terms f ≡ series f k kl
+pub series_nan : (f k kl : Float) → true ≡ is_nan (odd_terms f) → odd_terms f ≡ series f k kl
 unfolding series
 series_nan f k kl n =
     let s = f ⊘ (two ⊕ f) in
     let w = s ⊗ s ⊗ (s ⊗ s) in
-    absorbed s (half ⊗ f ⊗ f) (odd_terms f) (w ⊗ (G2 ⊕ w ⊗ (G4 ⊕ w ⊗ G6))) kl f (k ⊗ H) (is_nan_lem (odd_terms f) n)
+    absorbed s (half ⊗ f ⊗ f) (odd_terms f) (w ⊗ (G2 ⊕ w ⊗ (G4 ⊕ w ⊗ G6))) kl f (k ⊗ H) (nan_of (odd_terms f) n)
 
 -- ---- `ln`, by its tests
 zero_times : plus_zero ≡ plus_zero ⊗ L
@@ -172,9 +175,9 @@ below_or_nan (inf true) a z = refl
 below_or_nan (inf false) a z = absurd (true≢false a)
 below_or_nan (fin s m e) a z = below_zero (fin s m e) _ refl tt a z
 
-pub ln_below : (x : Float) → lt plus_zero x ≡ false → eq x plus_zero ≡ false → plus_zero ⊘ plus_zero ≡ ln x
+pub ln_below : (x : Float) → lt plus_zero x ≡ false → eq x plus_zero ≡ false → bits 0x7ff8_0000_0000_0000 ≡ ln x
 unfolding ln
-ln_below x a z = zero_by_zero ∙ rw (z, below_or_nan x a z)
+ln_below x a z = nan_pattern ∙ rw (z, below_or_nan x a z)
 
 -- ---- `ln1p`, by its tests: from -0.25 to 1.5, and below 0.40625, where the series is taken at u itself
 abbrev upper_limit : Float
@@ -197,13 +200,13 @@ pub ln1p_high : (u m k r : Float) (b : ℕ) → from_least u ≡ true → to_mos
 unfolding ln1p
 ln1p_high u m k r b f t l d e h = h ∙ rw (e.0 ∙ d.m_is, e.1 ∙ d.k_is, f, t, l)
 
-pub ln1p_over : (u : Float) → from_least u ≡ true → to_most u ≡ false → plus_zero ⊘ plus_zero ≡ ln1p u
+pub ln1p_over : (u : Float) → from_least u ≡ true → to_most u ≡ false → bits 0x7ff8_0000_0000_0000 ≡ ln1p u
 unfolding ln1p
-ln1p_over u a b = zero_by_zero ∙ rw (a, b)
+ln1p_over u a b = nan_pattern ∙ rw (a, b)
 
-pub ln1p_under : (u : Float) → from_least u ≡ false → plus_zero ⊘ plus_zero ≡ ln1p u
+pub ln1p_under : (u : Float) → from_least u ≡ false → bits 0x7ff8_0000_0000_0000 ≡ ln1p u
 unfolding ln1p
-ln1p_under u a = zero_by_zero ∙ rw a
+ln1p_under u a = nan_pattern ∙ rw a
 
 -- from 0.40625, which is 13 / 2 ^ 5, to 1.5, which is 3 / 2, u is above zero, and 1 + u is normal and 5 / 2 at most
 in_range : (u : Float) → to_most u ≡ true → lt u direct_limit ≡ false → T (positive u)

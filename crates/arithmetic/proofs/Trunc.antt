@@ -6,7 +6,7 @@ use native.Mathlib.Nat.{div-eq_of_lt}
 use native.Mathlib.Nat.{mul-div-mul_right, mul-add-div_right}
 use lib.Pow.{field as middle}
 use lib.Bits.{bit_and, and_mask, mask_lt}
-use lib.Ieee.{Float, nan, inf, fin, binary64, up, down, round, fits, is_nan, ne, of_fields, of_bits, to_bits, nan_bits}
+use lib.Ieee.{Float, nan, inf, fin, binary64, up, down, round, fits, is_nan, of_fields, of_bits, to_bits, nan_bits}
 use lib.Ieee.Bits.{of_bits-fits, to_bits-lt, nan_bits_is}
 use borrow.Author.Tests.{lt-leb}
 use lib.Ieee.Exact.{HasValue}
@@ -15,6 +15,7 @@ use lib.Ieee.Fits.{down_pos}
 use lib.Ieee.Scale.{finite}
 use lib.Ieee.Positive.{num, den, den_pos}
 use lib.Ieee.Nearest.{div_same}
+use Rattle.arithmetic.proofs.Methods.{nan_of}
 use Rattle.arithmetic.specs.Basic.{trunc}
 use Rattle.arithmetic.specs.Internal.WholePart.{whole_part}
 use Rattle.arithmetic.specs.Laws.Representable.{representable, round_self}
@@ -22,7 +23,7 @@ use Rattle.arithmetic.specs.Laws.Numbers.{lt_or_le, pow_split, same_test, false_
 use Rattle.arithmetic.specs.Laws.Patterns.{of_bits_is, read_more, bits_no_nan}
 use Rattle.arithmetic.specs.Laws.Times.{cross, has_finite, rescale}
 use Rattle.arithmetic.specs.Laws.Compare.{finite_no_nan}
-use Rattle.arithmetic.specs.Laws.Signs.{is_nan_lem, sign_bit}
+use Rattle.arithmetic.specs.Laws.Signs.{sign_bit}
 use Rattle.arithmetic.specs.Laws.ShiftedSums.{whole_large}
 use Rattle.arithmetic.specs.Laws.ExpBounds.{trunc_is}
 use Rattle.arithmetic.proofs.MulAddDecode.{value_subnormal, value_normal}
@@ -32,8 +33,8 @@ trunc_nan : trunc nan ≡ nan
 unfolding trunc
 trunc_nan = refl
 
-pub trunc_of_nan : (x : Float) → ne x x ≡ true → x ≡ trunc x
-trunc_of_nan x h = let e = is_nan_lem x h in e ∙ sym (ap trunc e ∙ trunc_nan)
+pub trunc_of_nan : (x : Float) → true ≡ is_nan x → x ≡ trunc x
+trunc_of_nan x h = let e = nan_of x h in e ∙ sym (ap trunc e ∙ trunc_nan)
 
 -- ---- the whole part of a finite value, by its fraction
 pub whole_part_is : (w : Float) → T (finite w) → whole_part w ≡ min (num w / den w) (2 ^ 52)

@@ -1,67 +1,37 @@
 // The methods of f64 that the source calls and that no operator gives.
-ghost use Rattle.std.specs.Prelude.{◌≡◌, ◌^◌, ◌≤◌, not, T, is_nan};
-ghost use Rattle.std.specs.Float.{binary64};
-ghost use Rattle.std.specs.Float.Ieee.{round};
+ghost use Rattle.std.specs.Prelude.{◌≡◌, ◌&&◌, not, T, is_nan};
+ghost use Rattle.std.specs.Float.Ieee.{lt, neg};
 ghost use Rattle.arithmetic.specs.Basic.{abs, signum, trunc, takes_first, max, min, recip, is_finite, is_infinite};
-ghost use Rattle.arithmetic.specs.Internal.WholePart.{whole_part};
 
-use super::format::{
-    BIAS, EXPONENT_FIELD, FRACTION_DIGITS, FRACTION_FIELD, INFINITY, NEGATIVE_INFINITY, SIGN,
-    TWO_TO_52, WHOLE_FIELD,
-};
-
-// WHOLE_FIELD - 63: the least exponent's field at which a shift gives the whole part. Below it a value is below 1.
-const FIRST_SHIFTED_FIELD: u64 = 1012;
+use super::format::{BIAS, EXPONENT_FIELD, FRACTION_DIGITS, SIGN, WHOLE_FIELD};
 
 // Of NaN, NaN: as a quotient, since for a cheaper operation the compiler computes both results and
-// picks one, which takes longer than the test.
+// picks one, which takes longer than the test. std's `abs` compares x with 0 twice, which takes longer too.
 pub fn abs(x: f64) -> f64
     ensures { result ≡ abs x }
 {
-    if x != x {
+    if x.is_nan() {
         return x / x;
     }
     f64::from_bits(f64::to_bits(x) % SIGN)
 }
 
+// std's `signum` takes std's `abs`, and so more operations.
 pub fn signum(x: f64) -> f64
     ensures { result ≡ signum x }
 {
-    if x != x {
+    if x.is_nan() {
         return x;
     }
-    if f64::to_bits(x) < SIGN { 1.0 } else { -1.0 }
+    if x.is_sign_negative() { -1.0 } else { 1.0 }
 }
 
-// The whole part of |x|, and 2^52 from there on.
-pub(crate) fn whole_part(x: f64) -> u64
-    requires { T (not (is_nan x)) }
-    ensures { result ≡ whole_part x }
-{
-    let bits = f64::to_bits(x);
-    let field = (bits >> FRACTION_DIGITS) & EXPONENT_FIELD;
-    if field < FIRST_SHIFTED_FIELD {
-        0
-    } else if field < WHOLE_FIELD {
-        ((bits & FRACTION_FIELD) + TWO_TO_52) >> (WHOLE_FIELD - field)
-    } else {
-        TWO_TO_52
-    }
-}
-
-// n with a sign, which a zero keeps.
-pub(crate) fn signed_integer(negative: bool, n: u64) -> f64
-    requires { n ≤ 2 ^ 53 }
-    ensures { result ≡ round binary64 negative n 1 }
-{
-    if negative { -(n as f64) } else { n as f64 }
-}
-
-// The whole part, toward zero, with the sign of x: the pattern's digits below the unit are cleared.
+// The whole part, toward zero, with the sign of x: the pattern's digits below the unit are cleared. std's `trunc` goes by sums and
+// comparisons, which take longer.
 pub fn trunc(x: f64) -> f64
     ensures { result ≡ trunc x }
 {
-    if x != x {
+    if x.is_nan() {
         return x;
     }
     let bits = f64::to_bits(x);
@@ -81,61 +51,56 @@ fn takes_first(x: f64, y: f64) -> bool
     requires { T (not (is_nan x)) }
     ensures { result ≡ takes_first x y }
 {
-    if x < y {
-        return false;
+    !(x < y) && (y < x || x.is_sign_positive())
+}
+
+// The larger and the smaller. std's `max` and `min` leave open which of two zeros they give.
+fn ordered(x: f64, y: f64) -> (f64, f64)
+    ensures larger { result.0 ≡ max x y }
+    ensures smaller { result.1 ≡ min x y }
+{
+    if x.is_nan() {
+        return (y, y);
     }
-    if y < x {
-        return true;
+    if y.is_nan() {
+        return (x, x);
     }
-    f64::to_bits(x) < SIGN
+    if takes_first(x, y) { (x, y) } else { (y, x) }
 }
 
 pub fn max(x: f64, y: f64) -> f64
     ensures { result ≡ max x y }
 {
-    if x != x {
-        return y;
-    }
-    if y != y {
-        return x;
-    }
-    if takes_first(x, y) { x } else { y }
+    ordered(x, y).0
 }
 
 pub fn min(x: f64, y: f64) -> f64
     ensures { result ≡ min x y }
 {
-    if x != x {
-        return y;
-    }
-    if y != y {
-        return x;
-    }
-    if takes_first(x, y) { y } else { x }
+    ordered(x, y).1
 }
 
 pub fn recip(x: f64) -> f64
     ensures { result ≡ recip x }
 {
-    1.0 / x
+    x.recip()
 }
 
 pub fn is_finite(x: f64) -> bool
     ensures { result ≡ is_finite x }
 {
-    if x < f64::from_bits(INFINITY) {
-        f64::from_bits(NEGATIVE_INFINITY) < x
-    } else {
-        false
-    }
+    x.is_finite()
 }
 
 pub fn is_infinite(x: f64) -> bool
     ensures { result ≡ is_infinite x }
 {
-    if x == f64::from_bits(INFINITY) {
-        true
-    } else {
-        x == f64::from_bits(NEGATIVE_INFINITY)
-    }
+    x.is_infinite()
+}
+
+// Whether x is a number of smaller magnitude than limit.
+pub(crate) fn is_within(x: f64, limit: f64) -> bool
+    ensures { result ≡ (lt x limit && lt (neg limit) x) }
+{
+    (x < limit) & (-limit < x)
 }

@@ -1,13 +1,15 @@
 // e^x, with fdlibm's names and coefficients: x = k ln 2 + r, and e^x = 2^k e^r.
-ghost use Rattle.std.specs.Prelude.{◌≡◌, ◌+◌, ◌-◌, ◌^◌, ◌<◌, false, T, if◌then◌else◌};
+ghost use Rattle.std.specs.Prelude.{◌≡◌, ◌^◌, ◌<◌, false, not, T, is_nan};
 ghost use Rattle.std.specs.Float.{binary64};
 ghost use Rattle.std.specs.Float.Ieee.{minus, mul};
 ghost use Rattle.std.specs.Float.Ieee.Exact.{HasValue};
+ghost use Rattle.arithmetic.specs.Basic.{is_sign_minus};
 ghost use Rattle.arithmetic.specs.Exp.{half_away, reduced, scale_b, exp};
 ghost use Rattle.arithmetic.specs.Internal.Exp.{near_zero, in_fast_range, clear_of_tie};
 
-use super::basic::{signed_integer, whole_part};
-use super::format::{FRACTION_DIGITS, INFINITY, PRECISION, SIGN, TWO_TO_52};
+use super::basic::{is_within, trunc};
+use super::format::{FRACTION_DIGITS, PRECISION, TWO_TO_52};
+use std::num::saturating_f64_to_i64;
 
 // The sum of the two is ln 2: a k of 11 bits times LN2_HI is exact.
 pub(crate) const LN2_HI: f64 = 0.6931471803691238;
@@ -34,7 +36,7 @@ const P4: f64 = -1.65339022054652515390e-06;
 const P5: f64 = 4.13813679705723846039e-08;
 
 // An exponent k is counted from that of half the smallest value on: e = k + EXPONENT_OFFSET.
-const EXPONENT_OFFSET: u64 = 1075;
+const EXPONENT_OFFSET: i64 = 1075;
 
 // e of the largest k, 1024, and of the largest power of two that is an f64.
 const LAST_EXPONENT: u64 = 2099;
@@ -59,11 +61,16 @@ const SHIFT_PATTERN: u64 = 0x4338_0000_0000_0000;
 const MAX_REST: f64 = 0.4999847412109375;
 
 // x / ln 2, and a half away from zero.
-fn half_away(negative: bool, x: f64) -> f64
-    ensures { result ≡ half_away negative x }
+fn half_away(x: f64) -> f64
+    requires { T (not (is_nan x)) }
+    ensures { result ≡ half_away (is_sign_minus x) x }
 {
     let w = x * INVLN2;
-    if negative { w - 0.5 } else { w + 0.5 }
+    if x.is_sign_negative() {
+        w - 0.5
+    } else {
+        w + 0.5
+    }
 }
 
 // e^(x - k ln 2).
@@ -106,48 +113,29 @@ fn scale_b(y: f64, e: u64) -> f64
     y * power(e)
 }
 
-// 1075 + k, for a k of magnitude n.
-fn biased_exponent(negative: bool, n: u64) -> u64
-    requires { n < 1076 }
-    ensures { result ≡ (if negative then 1075 - n else 1075 + n) }
-{
-    if negative {
-        EXPONENT_OFFSET - n
-    } else {
-        EXPONENT_OFFSET + n
-    }
-}
-
 // e^x for every x, NaN and the infinities among them: k is the whole part of x / ln 2 and a half, and 2^k may be
 // subnormal.
 fn general(x: f64) -> f64
     ensures { result ≡ exp x }
 {
-    if x != x {
+    if x.is_nan() {
         return x;
     }
     if x > O_THRESHOLD {
-        return f64::from_bits(INFINITY);
+        return f64::INFINITY;
     }
     if x < U_THRESHOLD {
         return 0.0;
     }
-    let negative = SIGN <= f64::to_bits(x);
-    let n = whole_part(half_away(negative, x));
+    let k = trunc(half_away(x));
     scale_b(
-        reduced(x, signed_integer(negative, n)),
-        biased_exponent(negative, n),
+        reduced(x, k),
+        (saturating_f64_to_i64(k) + EXPONENT_OFFSET) as u64,
     )
 }
 
-// Whether x is so near 0 that k is 0.
-fn is_near_zero(x: f64) -> bool
-    ensures { result ≡ near_zero x }
-{
-    (x < NEAR_ZERO) & (-NEAR_ZERO < x)
-}
-
-// e^x of an x near 0: `reduced` with a k of 0, where h is x and l is 0. With d for its quotient, (l - d) - h is -(d + x).
+// e^x of an x so near 0 that k is 0: `reduced` with a k of 0, where h is x and l is 0. With d for its quotient, (l - d) - h
+// is -(d + x).
 fn near_zero(x: f64) -> f64
     requires { T (near_zero x) }
     ensures { result ≡ exp x }
@@ -157,24 +145,17 @@ fn near_zero(x: f64) -> f64
     1.0 + ((x * c) / (2.0 - c) + x)
 }
 
-// Whether x is so far from the ends of the range that 2^k is a normal number, and no result overflows or is subnormal.
-fn is_in_fast_range(x: f64) -> bool
-    ensures { result ≡ in_fast_range x }
-{
-    (x < FAST_LIMIT) & (-FAST_LIMIT < x)
-}
-
 // Whether x / ln 2 is clear of every tie, half way between two whole numbers: of an x in the fast range the k that SHIFT
 // gives is then the k of `general`.
 fn is_clear_of_tie(x: f64) -> bool
     ensures { result ≡ clear_of_tie x }
 {
     let w = x * INVLN2;
-    let rest = w - (w + SHIFT - SHIFT);
-    (rest < MAX_REST) & (-MAX_REST < rest)
+    is_within(w - (w + SHIFT - SHIFT), MAX_REST)
 }
 
-// e^x of an x in the fast range and clear of a tie: k and the pattern of 2^k come from the sum with SHIFT.
+// e^x of an x in the fast range, where 2^k is a normal number and no result overflows or is subnormal, and clear of a tie: k
+// and the pattern of 2^k come from the sum with SHIFT.
 fn fast(x: f64) -> f64
     requires in_range { T (in_fast_range x) }
     requires no_tie { T (clear_of_tie x) }
@@ -188,13 +169,11 @@ fn fast(x: f64) -> f64
 pub fn exp(x: f64) -> f64
     ensures { result ≡ exp x }
 {
-    if is_near_zero(x) {
+    if is_within(x, NEAR_ZERO) {
         return near_zero(x);
     }
-    if is_in_fast_range(x) {
-        if is_clear_of_tie(x) {
-            return fast(x);
-        }
+    if is_within(x, FAST_LIMIT) && is_clear_of_tie(x) {
+        return fast(x);
     }
     general(x)
 }
@@ -203,7 +182,7 @@ pub fn exp(x: f64) -> f64
 pub fn exp_product(x: f64, y: f64) -> f64
     ensures { result ≡ mul binary64 (exp x) (exp y) }
 {
-    if is_in_fast_range(x) & is_in_fast_range(y) {
+    if is_within(x, FAST_LIMIT) & is_within(y, FAST_LIMIT) {
         if is_clear_of_tie(x) & is_clear_of_tie(y) {
             return fast(x) * fast(y);
         }

@@ -5,9 +5,10 @@ ghost use Rattle.arithmetic.specs.Exp.{ln2_lo};
 ghost use Rattle.arithmetic.specs.Ln.{series, ln, ln1p};
 ghost use Rattle.arithmetic.specs.Internal.Ln.{significand_of_bits, exponent_of_bits};
 
+use super::basic::is_within;
 use super::constants::MIN_POSITIVE;
 use super::exp::{LN2_HI, LN2_LO};
-use super::format::{INFINITY, NEGATIVE_INFINITY, TWO_TO_52};
+use super::format::TWO_TO_52;
 
 // Coefficients of ln((1 + s) / (1 - s)) / s = 2 + G1 s² + G2 s⁴ + .., near enough for an f = 2s / (1 - s) from √(1/2) - 1
 // to √2 - 1.
@@ -68,7 +69,7 @@ fn series(f: f64, k: f64, kl: f64) -> f64
     let w = z * z;
     let g = (0.5 * f) * f;
     let odd = z * (G1 + w * (G3 + w * (G5 + w * G7)));
-    if odd != odd {
+    if odd.is_nan() {
         return odd;
     }
     let r = odd + w * (G2 + w * (G4 + w * G6));
@@ -90,7 +91,7 @@ pub fn ln(x: f64) -> f64
     ensures { result ≡ ln x }
 {
     if MIN_POSITIVE <= x {
-        if x < f64::from_bits(INFINITY) {
+        if x < f64::INFINITY {
             let b = f64::to_bits(x);
             if (LEAST_SIGNIFICAND <= b) & (b < TWICE_LEAST) {
                 return series(x - 1.0, 0.0, 0.0);
@@ -103,29 +104,26 @@ pub fn ln(x: f64) -> f64
         return of_pattern(f64::to_bits(x * NORMALISER));
     }
     if x == 0.0 {
-        return f64::from_bits(NEGATIVE_INFINITY);
+        return f64::NEG_INFINITY;
     }
     // below zero, or NaN
-    0.0 / 0.0
+    f64::NAN
 }
 
 // The natural logarithm of 1 + u, for a u from -0.25 to 1.5.
 pub fn ln_1p(u: f64) -> f64
     ensures { result ≡ ln1p u }
 {
-    if -0.25 <= u {
-        if u <= 1.5 {
-            if u < 0.40625 {
-                return series(u, 0.0, 0.0);
-            }
-            // from 1.40625 to 2.5, and so normal
-            let v = 1.0 + u;
-            let p = decompose_bits(f64::to_bits(v) + NORMALISER_STEPS);
-            return series(p.m - 1.0, p.k, p.k * LN2_LO + (u - (v - 1.0)) / v);
+    if -0.25 <= u && u <= 1.5 {
+        if u < 0.40625 {
+            return series(u, 0.0, 0.0);
         }
-        return 0.0 / 0.0;
+        // from 1.40625 to 2.5, and so normal
+        let v = 1.0 + u;
+        let p = decompose_bits(f64::to_bits(v) + NORMALISER_STEPS);
+        return series(p.m - 1.0, p.k, p.k * LN2_LO + (u - (v - 1.0)) / v);
     }
-    0.0 / 0.0
+    f64::NAN
 }
 
 // 2^-20, and 2^-18: of a u below the first in size, what the series adds to u - u²/2 is at most the second times u².
@@ -138,7 +136,7 @@ const PLUS_LN_SHARE: f64 = 0.000003814697265625;
 pub fn plus_ln_1p(y: f64, u: f64) -> f64
     ensures { result ≡ y ⊕ ln1p u }
 {
-    if (u < PLUS_LN_LIMIT) & (-PLUS_LN_LIMIT < u) {
+    if is_within(u, PLUS_LN_LIMIT) {
         let g = (0.5 * u) * u;
         let h = u * u * PLUS_LN_SHARE;
         let least = y + ((-h - g) + u);

@@ -1,17 +1,7 @@
--- `basic::is_finite` meets its contract, by `finite_test`. Assumes nothing.
-use Rattle.std.proofs.Common.{arith}
-use Rattle.arithmetic.specs.Laws.Patterns.{bits_no_nan}
-use Rattle.arithmetic.specs.Laws.Signs.{finite_test}
+-- `basic::is_finite` meets its contract: std's test is the definition's. Assumes nothing.
+use Rattle.std.proofs.Common.{◌∙◌}
+use Rattle.arithmetic.proofs.Methods.{finite_is}
 use Rattle.arithmetic.proofs.basic.is_finite.Goals as goal
 
-pub float_from_bits-t-2 : goal.float_from_bits-t-2
-float_from_bits-t-2 c = bits_no_nan _ (omega arith)
-
-pub float_from_bits-result : goal.float_from_bits-result
-float_from_bits-result c = bits_no_nan _ (omega arith)
-
-pub returns-then-x : goal.returns-then-x
-returns-then-x c = rw c.if-x.true at (finite_test c.args.x)
-
-pub returns-else-x : goal.returns-else-x
-returns-else-x c = rw c.if-x.false at (finite_test c.args.x)
+pub returns : goal.returns
+returns c = c.is_finite.ensures.value ∙ finite_is c.args.x

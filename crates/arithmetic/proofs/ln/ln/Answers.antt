@@ -2,21 +2,11 @@
 use Rattle.std.proofs.Common.{T, arith, ltb-true, leb-true}
 use denote.Floats.{passes}
 use lib.Ieee.{binary64, fits}
-use Rattle.arithmetic.specs.Laws.Patterns.{bits_no_nan}
 use Rattle.arithmetic.specs.Laws.Logarithm.{positive_bits}
 use Rattle.arithmetic.proofs.ExpFast.{both_true}
 use Rattle.arithmetic.proofs.LnPaths.{NormalParts, SubnormalParts, positive_no_nan, normal_parts, subnormal_parts}
 use Rattle.arithmetic.proofs.LnPaths.{ln_near_one, ln_parts, ln_infinity, ln_zero, ln_below}
 use Rattle.arithmetic.proofs.ln.ln.Goals as goal
-
-pub float_from_bits-t-4 : goal.float_from_bits-t-4
-float_from_bits-t-4 c = bits_no_nan _ (omega arith)
-
-pub float_to_bits-b : goal.float_to_bits-b
-float_to_bits-b c =
-    let held : T (fits binary64 c.args.x) = passes _ c.well_formed.0.1 in
-    let parts : NormalParts c.args.x = normal_parts c.args.x held c.if-x.true c.if-x-2.true in
-    positive_no_nan _ parts.0
 
 pub returns-then-b : goal.returns-then-b
 returns-then-b c =
@@ -57,9 +47,6 @@ returns-then-x-3 c =
     let held : T (fits binary64 c.args.x) = passes _ c.well_formed.0.1 in
     let low_parts : SubnormalParts c.args.x = subnormal_parts c.args.x held c.if-x.false c.if-x-3.true in
     ln_parts _ _ _ low_parts.0 low_parts.2 c.of_pattern-then-x-3.ensures
-
-pub float_from_bits-result : goal.float_from_bits-result
-float_from_bits-result c = bits_no_nan _ (omega arith)
 
 pub returns-then-x-4 : goal.returns-then-x-4
 returns-then-x-4 c = ln_zero c.args.x c.if-x-4.true

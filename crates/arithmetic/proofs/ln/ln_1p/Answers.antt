@@ -6,6 +6,7 @@ use Rattle.arithmetic.specs.Operations.{◌⊕◌, one}
 use Rattle.arithmetic.specs.Laws.Logarithm.{positive_bits}
 use Rattle.arithmetic.proofs.LnPaths.{NormalParts, positive_no_nan, ln1p_low, ln1p_high, ln1p_over, ln1p_under, sum_parts}
 use Rattle.arithmetic.proofs.ln.ln_1p.Goals as goal
+use Rattle.arithmetic.proofs.ln.ln_1p.Goals.{else-u-via-then-u+else-u-2, else-u-via-else-u}
 
 pub returns-then-u-3 : goal.returns-then-u-3
 unfolding of_bits neg
@@ -28,10 +29,6 @@ returns-then-u-2 c =
     ln1p_high c.args.u _ _ _ _ c.if-u.true c.if-u-2.true c.if-u-3.false
     parts.1 c.decompose_bits-p.ensures c.series-then-u-2.ensures
 
-pub returns-then-u : goal.returns-then-u
-unfolding of_bits neg
-returns-then-u c = ln1p_over c.args.u c.if-u.true c.if-u-2.false
-
 pub returns : goal.returns
 unfolding of_bits neg
-returns c = ln1p_under c.args.u c.if-u.false
+returns c = elim c.else-u.branch [ else-u-via-then-u+else-u-2 w ↦ ln1p_over c.args.u w.if-u.true w.if-u-2.false | else-u-via-else-u w ↦ ln1p_under c.args.u w.if-u.false ]

@@ -4,8 +4,8 @@ use Rattle.arithmetic.specs.Ln.{series}
 use Rattle.arithmetic.proofs.LnPaths.{series_nan}
 use Rattle.arithmetic.proofs.ln.series.Goals as goal
 
-pub returns-then-odd : goal.returns-then-odd
-returns-then-odd c = series_nan c.args.f c.args.k c.args.kl c.if-odd.true
+pub returns-then-is_nan : goal.returns-then-is_nan
+returns-then-is_nan c = series_nan c.args.f c.args.k c.args.kl c.if-is_nan.ensures.value
 
 pub returns : goal.returns
 unfolding series

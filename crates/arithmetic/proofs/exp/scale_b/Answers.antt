@@ -1,7 +1,7 @@
 -- `exp::scale_b` meets its contract: a law of `PowersOfTwo` for each path. Assumes nothing.
-use Rattle.std.proofs.Common.{ℕ, T, sym, ap, ◌∙◌, lit≤}
+use Rattle.std.proofs.Common.{ℕ, sym, ap, ◌∙◌, lit≤}
 use denote.Floats.{passes}
-use lib.Ieee.{binary64, fits, minus}
+use lib.Ieee.{minus}
 use Rattle.arithmetic.specs.Operations.{◌⊗◌, half, two}
 use Rattle.arithmetic.specs.Exp.{scale_b}
 use Rattle.arithmetic.specs.Laws.PowersOfTwo.{times_power, halved, twice}
@@ -9,18 +9,16 @@ use Rattle.arithmetic.proofs.exp.scale_b.Goals as goal
 
 pub returns-then-e-eq0 : goal.returns-then-e-eq0
 returns-then-e-eq0 c =
-    let held : T (fits binary64 c.args.y) = passes _ c.well_formed.0.1 in
     let y = c.args.y in
     times_power (y ⊗ half) c.power.result 1 c.power.ensures
-    ∙ halved y held
+    ∙ halved y (passes _ c.well_formed.0.1)
     ∙ ap (λ (e : ℕ). scale_b y (minus e 1075)) (sym c.if-e-eq0.true)
 
 pub returns-then-e-eq-LAST_EXPONENT : goal.returns-then-e-eq-LAST_EXPONENT
 returns-then-e-eq-LAST_EXPONENT c =
-    let held : T (fits binary64 c.args.y) = passes _ c.well_formed.0.1 in
     let y = c.args.y in
     times_power (y ⊗ two) c.power-then-e-eq-LAST_EXPONENT.result 2098 c.power-then-e-eq-LAST_EXPONENT.ensures
-    ∙ twice y 2098 held (lit≤ tt)
+    ∙ twice y 2098 (passes _ c.well_formed.0.1) (lit≤ tt)
     ∙ ap (λ (e : ℕ). scale_b y (minus e 1075)) (sym c.if-e-eq-LAST_EXPONENT.true)
 
 pub returns : goal.returns

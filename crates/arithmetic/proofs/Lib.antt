@@ -13,7 +13,6 @@ mod SqrtDigits
 mod SqrtPaths
 mod Trunc
 mod Methods
-mod MaxMin
 mod Integers
 mod ExpGeneral
 mod LnPaths

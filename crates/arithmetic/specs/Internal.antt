@@ -6,4 +6,5 @@ pub mod Exp
 pub mod Ln
 pub mod WholePart
 pub mod Pair
+pub mod Chosen
 pub mod Sqrt

@@ -2,6 +2,7 @@
 ghost use Rattle.std.specs.Prelude.{◌≡◌, ◌&&◌, not, T, is_nan};
 ghost use Rattle.std.specs.Float.Ieee.{lt, neg};
 ghost use Rattle.arithmetic.specs.Basic.{abs, signum, trunc, takes_first, max, min, recip, is_finite, is_infinite};
+ghost use Rattle.arithmetic.specs.Internal.Chosen.{chosen};
 
 use super::format::{BIAS, EXPONENT_FIELD, FRACTION_DIGITS, SIGN, WHOLE_FIELD};
 
@@ -51,33 +52,39 @@ fn takes_first(x: f64, y: f64) -> bool
     requires { T (not (is_nan x)) }
     ensures { result ≡ takes_first x y }
 {
-    !(x < y) && (y < x || x.is_sign_positive())
+    if x < y {
+        return false;
+    }
+    if y < x {
+        return true;
+    }
+    x.is_sign_positive()
 }
 
-// The larger and the smaller. std's `max` and `min` leave open which of two zeros they give.
-fn ordered(x: f64, y: f64) -> (f64, f64)
-    ensures larger { result.0 ≡ max x y }
-    ensures smaller { result.1 ≡ min x y }
+// What `max` and `min` share: a NaN is dropped, and of two numbers `first` is taken where `max` takes x, and else `second`.
+fn chosen(x: f64, y: f64, first: f64, second: f64) -> f64
+    ensures { result ≡ chosen x y first second }
 {
     if x.is_nan() {
-        return (y, y);
+        return y;
     }
     if y.is_nan() {
-        return (x, x);
+        return x;
     }
-    if takes_first(x, y) { (x, y) } else { (y, x) }
+    if takes_first(x, y) { first } else { second }
 }
 
+// std's `max` and `min` leave open which of two zeros they give.
 pub fn max(x: f64, y: f64) -> f64
     ensures { result ≡ max x y }
 {
-    ordered(x, y).0
+    chosen(x, y, x, y)
 }
 
 pub fn min(x: f64, y: f64) -> f64
     ensures { result ≡ min x y }
 {
-    ordered(x, y).1
+    chosen(x, y, y, x)
 }
 
 pub fn recip(x: f64) -> f64

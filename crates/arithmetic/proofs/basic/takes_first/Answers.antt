@@ -3,5 +3,5 @@ use Rattle.std.proofs.Common.{not, ap, ◌∙◌}
 use Rattle.arithmetic.proofs.Methods.{sign_is}
 use Rattle.arithmetic.proofs.basic.takes_first.Goals as goal
 
-pub returns-else-y-x : goal.returns-else-y-x
-returns-else-y-x c = c.is_sign_positive.ensures ∙ ap not (sign_is c.args.x) ∙ rw (c.if-not-x-y.true, c.if-y-x.false)
+pub returns : goal.returns
+returns c = c.is_sign_positive.ensures ∙ ap not (sign_is c.args.x) ∙ rw (c.if-x-y.false, c.if-y-x.false)

@@ -1,76 +1,83 @@
--- The number e that `general` of `exp` hands to `scale_b`: 1075 + k, computed in 64 bits from a k between the thresholds. Assumes nothing.
-use Rattle.std.proofs.Common.{◌≡◌, ℕ, suc, ◌+◌, ◌-◌, ◌<◌, false, ℤ, pos, negsuc, ◌+ℤ◌, sym, refl, ap, ◌∙◌, subst, le_trans, arith, leb-true, leb-false, leb, Bool, ◌/◌, ◌≤◌, w64, SFits, to_z, of_z}
-use mir.ValLaws.{to_z-of_z}
-use lib.Ieee.{Float, binary64, minus, round, lt, is_nan, to_signed}
+-- The number e that `general` of `exp` hands to `scale_b`: k + 1075, a sum that is exact for a k between the thresholds. Assumes nothing.
+use Rattle.std.proofs.Common.{◌≡◌, ◌⊎◌, ℕ, ◌+◌, ◌-◌, ◌/◌, ◌<◌, ◌≤◌, Bool, true, false, T, pos, sym, refl, ap, ◌∙◌, subst, inl, inr, le_trans, lt_of_lt_of_le, eq-or-lt_of_le, add_comm, arith, lit<, lit≤, lt-ltb}
+use lib.Ieee.{Float, binary64, minus, round, sum, sub, neg, lt, of_int, of_bits, is_nan, to_signed, in_unsigned, to_unsigned}
+use lib.Ieee.Back.{round_whole, unsigned_back}
+use lib.Ieee.Exact.{HasValue}
 use lib.Ieee.Positive.{num, den}
+use Rattle.arithmetic.specs.Operations.{◌⊕◌, ◌⊖◌, bits}
 use Rattle.arithmetic.specs.Basic.{is_sign_minus, trunc}
 use Rattle.arithmetic.specs.Exp.{o_threshold, u_threshold, half_away, reduced, scale_b, exp}
-use Rattle.arithmetic.specs.Laws.Choices.{by_test}
+use Rattle.arithmetic.specs.Laws.Sizes.{sum_alike}
+use Rattle.arithmetic.specs.Laws.Sums.{sub_values}
 use Rattle.arithmetic.specs.Laws.ExpBounds.{trunc_is}
-use Rattle.arithmetic.proofs.Exponents.{Counted, counted_sum, counted_from}
-use Rattle.arithmetic.proofs.ExpGeneral.{Bounded, bounded, most_le, biased_exponent, biased_exponent_lt, whole_number, exp_between}
+use Rattle.arithmetic.proofs.Integers.{of_int_pos, integer_fits}
+use Rattle.arithmetic.proofs.ExpGeneral.{Bounded, bounded, most, most_le, biased_exponent, biased_exponent_lt, whole_number, exp_between}
 
--- ---- 1075 + k in 64 bits
-counted_minus : (e : ℕ) → Counted 1075 (minus e 1075) e
-counted_minus e = by_test (λ (z : ℤ). Counted 1075 z e) (leb 1075 e) (λ h. from (leb-true 1075 e h)) (λ h. below (leb-false 1075 e h))
+-- ---- the sum, of a k of the sign s and the size m
+abbrev offset : Float
+offset = bits 0x4090_CC00_0000_0000
+
+offset_value : HasValue (neg offset) true 1075 1
+unfolding of_bits neg
+offset_value = (refl, refl)
+
+less_negated : (k : Float) → k ⊕ offset ≡ k ⊖ neg offset
+unfolding sub neg of_bits
+less_negated k = refl
+
+exact : (s : Bool) (m : ℕ) → m ≤ most s → sum binary64 s m false 1075 1 ≡ of_int binary64 (pos (biased_exponent s m))
+unfolding sum
+exact false m h = sum_alike false m 1075 1 ∙ ap (λ (z : ℕ). round binary64 false z 1) (add_comm m 1075) ∙ sym (of_int_pos (1075 + m))
+exact true m h = go (eq-or-lt_of_le h)
   where
-    from : 1075 ≤ e → e - 1075 + 1075 ≡ e
-    from h = omega arith
+    go : (m ≡ 1075) ⊎ (m < 1075) → sum binary64 true m false 1075 1 ≡ of_int binary64 (pos (1075 - m))
+    go (inl e) = rw e (sym (of_int_pos 0))
+    go (inr l) = rw (lt-ltb m 1075 l) (sym (of_int_pos (1075 - m)))
 
-    below : e < 1075 → e + suc (1075 - suc e) ≡ 1075
-    below h = omega arith
+offset_sum : (s : Bool) (m : ℕ) → m ≤ most s → round binary64 s m 1 ⊕ offset ≡ of_int binary64 (pos (biased_exponent s m))
+offset_sum s m h =
+    let k = round binary64 s m 1 in
+    less_negated k
+    ∙ sub_values binary64 k (neg offset) s true m 1075 1 (lit< tt) (round_whole binary64 s m (le_trans h (le_trans (most_le s) (lit≤ tt)))) offset_value
+    ∙ exact s m h
 
-held_fits : (z : ℤ) (e : ℕ) → Counted 1075 z e → e < 2100 → SFits w64 z
-held_fits (pos n) e h l = record { sfits = omega arith }
-held_fits (negsuc n) e h l = record { sfits = omega arith }
+-- ---- k between the thresholds, as the code computes it, and the number e that the sum is
+abbrev e : Float → ℕ
+e k = to_unsigned 64 (k ⊕ offset)
 
-whole : (z : ℤ) (e : ℕ) → Counted 0 z e → z ≡ pos e
-whole (pos n) e h = ap pos (omega arith)
-whole (negsuc n) e h = absurd (omega arith)
+pub record Computed (k : Float) : Type 0 where
+  pub is_whole : T (in_unsigned binary64 64 (k ⊕ offset))
+  pub few : e k < 2100
+  pub value : to_signed 63 k ≡ minus (e k) 1075
 
-abbrev held : ℤ → ℤ
-held z = to_z w64 (of_z w64 z)
-
--- e is 1075 + k, for the whole number z that k is
-pub record Computed (z : ℤ) : Type 0 where
-  pub e : ℕ
-  pub few : e < 2100
-  pub value : z ≡ minus e 1075
-  pub sum_fits : SFits w64 (held z +ℤ pos 1075)
-  pub sum_is : held (held z +ℤ pos 1075) ≡ pos e
-
-computed : (z : ℤ) (e : ℕ) → e < 2100 → z ≡ minus e 1075 → Computed z
-computed z e l v =
-    let C : Counted 1075 z e = subst (λ (y : ℤ). Counted 1075 y e) (sym v) (counted_minus e) in
-    let sum : held z +ℤ pos 1075 ≡ pos e =
-    ap (λ (y : ℤ). y +ℤ pos 1075) (to_z-of_z w64 z (held_fits z e C l))
-    ∙ whole (z +ℤ pos 1075) e
-    (counted_from (1075 + 0) (e + 1075) 0 e (z +ℤ pos 1075) (omega arith) (counted_sum 1075 0 e 1075 z (pos 1075) C (omega arith))) in
-    let fits : SFits w64 (pos e) = record { sfits = omega (arith, l) } in
+computed : (s : Bool) (m : ℕ) → m ≤ most s → Computed (round binary64 s m 1)
+computed s m h =
+    let k = round binary64 s m 1 in
+    let E = biased_exponent s m in
+    let few : E < 2100 = biased_exponent_lt s m h in
+    let cast : T (in_unsigned binary64 64 (k ⊕ offset)) × (e k ≡ E) =
+    subst (λ (z : Float). T (in_unsigned binary64 64 z) × (to_unsigned 64 z ≡ E)) (sym (offset_sum s m h))
+    (unsigned_back binary64 64 E (integer_fits E (omega (arith, few))) (lt_of_lt_of_le few (lit≤ tt))) in
     record {
-      e = e;
-      few = l;
-      value = v;
-      sum_fits = subst (SFits w64) (sym sum) fits;
-      sum_is = ap held sum ∙ to_z-of_z w64 (pos e) fits;
+      is_whole = cast.0;
+      few = subst (λ (z : ℕ). z < 2100) (sym cast.1) few;
+      value = whole_number s m (le_trans h (most_le s)) ∙ ap (λ (z : ℕ). minus z 1075) (sym cast.1);
     }
 
--- ---- k between the thresholds, as the code computes it, and the result
 module _ (x : Float) (n : false ≡ is_nan x) (h : lt o_threshold x ≡ false) (l : lt x u_threshold ≡ false)
-    (w k : Float) (W : w ≡ half_away (is_sign_minus x) x) (K : k ≡ trunc w) (z : ℤ) (Z : z ≡ to_signed 63 k) where
-  pub code_exponent : Computed z
+    (w k : Float) (W : w ≡ half_away (is_sign_minus x) x) (K : k ≡ trunc w) where
+  pub code_exponent : Computed k
   code_exponent =
       let s = is_sign_minus x in
       let b : Bounded s w = bounded x (sym n) h l s w refl W in
       let m = num w / den w in
       let is : k ≡ round binary64 s m 1 = K ∙ trunc_is w b.is_finite_lem ∙ ap (λ (t : Bool). round binary64 t m 1) b.sign in
-      computed z (biased_exponent s m) (biased_exponent_lt s m b.size)
-      (Z ∙ ap (to_signed 63) is ∙ whole_number s m (le_trans b.size (most_le s)))
+      subst Computed (sym is) (computed s m b.size)
 
-  pub exp_computed : (y r : Float) → y ≡ reduced x k → r ≡ scale_b y (minus code_exponent.e 1075) → r ≡ exp x
+  pub exp_computed : (y r : Float) → y ≡ reduced x k → r ≡ scale_b y (minus (e k) 1075) → r ≡ exp x
   exp_computed y r Y R =
       R
-      ∙ ap (λ (v : Float). scale_b v (minus code_exponent.e 1075)) Y
-      ∙ ap (scale_b (reduced x k)) (sym code_exponent.value ∙ Z)
+      ∙ ap (λ (v : Float). scale_b v (minus (e k) 1075)) Y
+      ∙ ap (scale_b (reduced x k)) (sym code_exponent.value)
       ∙ ap (λ (v : Float). scale_b (reduced x v) (to_signed 63 v)) (K ∙ ap trunc W)
       ∙ sym (exp_between x (sym n) h l)

@@ -1,4 +1,4 @@
--- What `fast` of `exp` gives, for an x of which `is_in_fast_range` and `is_clear_of_tie` hold: the k of the definition, by a sum with 3 * 2 ^ 51 + 1023.
+-- What `fast` of `exp` gives, for an x in the fast range of which `is_clear_of_tie` holds: the k of the definition, by a sum with 3 * 2 ^ 51 + 1023.
 -- 6755399441055744 is 3 * 2 ^ 51, 4503599627370496 is 2 ^ 52. Assumes nothing.
 use Rattle.std.proofs.Common.{◌≡◌, ℕ, zero, suc, ◌+◌, ◌-◌, ◌*◌, ◌/◌, ◌%◌, ◌^◌, ◌<◌, ◌≤◌, Bool, true, false, cond, not, ◌&&◌, T, eqb, ltb, leb, ◌⊎◌, ℤ, pos, negsuc, sym, refl, ap, ◌∙◌, subst, inl, inr, le_trans, le_of_eq, lt_of_lt_of_le, le_of_lt, mul-le-mul_right, div-lt_iff_lt-mul, le_antisymm, mul-pos, lt_of_not-le, le-div_iff_mul-le, mul-one, mul_right_comm, not-le_of_lt, le_of_mul-le-mul_right, arith, lit<, lit≤, lt→ltb, pow_pos, ltb-true, le-ltb, lt-ltb}
 use native.Mathlib.Nat.{min-eq_left}

@@ -1,4 +1,4 @@
--- What `near_zero` of `exp` gives, for an x of which `is_near_zero` holds: |x| is below 11 / 32, x / ln 2 at most 127 / 256, and so k is 0. Assumes nothing.
+-- What `near_zero` of `exp` gives, for an x near 0: |x| is below 11 / 32, x / ln 2 at most 127 / 256, and so k is 0. Assumes nothing.
 use Rattle.std.proofs.Common.{◌≡◌, ℕ, ◌+◌, ◌-◌, ◌*◌, ◌<◌, ◌≤◌, false, T, negsuc, sym, refl, ap, ◌∙◌, le_of_lt, arith, lit≤}
 use lib.Ieee.{Float, fin, binary64, neg, lt, fits, of_bits}
 use lib.Ieee.Bits.{is_true}

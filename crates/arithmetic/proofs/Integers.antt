@@ -1,4 +1,4 @@
--- Whole numbers as floats, for `signed_integer`, `general`, `decompose_bits` and `sqrt`: a cast is `round`, exact up to 2 ^ 53. Assumes nothing.
+-- Whole numbers as floats, for `general` of `exp` and `decompose_bits`: a cast is `round`, exact up to 2 ^ 53. Assumes nothing.
 use Rattle.std.proofs.Common.{◌≡◌, ℕ, suc, ◌^◌, ◌≤◌, true, false, T, pos, negsuc, refl, le→leb, lt→ltb}
 use lib.Ieee.{binary64, round, of_int, in_float}
 use lib.Ieee.Back.{round_whole}

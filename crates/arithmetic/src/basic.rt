@@ -1,8 +1,7 @@
 // The methods of f64 that the source calls and that no operator gives.
-ghost use Rattle.std.specs.Prelude.{◌≡◌, ◌&&◌, not, T, is_nan};
-ghost use Rattle.std.specs.Float.Ieee.{lt, neg};
+ghost use Rattle.std.specs.Prelude.{◌≡◌, not, T, is_nan};
 ghost use Rattle.arithmetic.specs.Basic.{abs, signum, trunc, takes_first, max, min, recip, is_finite, is_infinite};
-ghost use Rattle.arithmetic.specs.Internal.Chosen.{chosen};
+ghost use Rattle.arithmetic.specs.Internal.Basic.{chosen, within};
 
 use super::format::{BIAS, EXPONENT_FIELD, FRACTION_DIGITS, SIGN, WHOLE_FIELD};
 
@@ -107,7 +106,7 @@ pub fn is_infinite(x: f64) -> bool
 
 // Whether x is a number of smaller magnitude than limit.
 pub(crate) fn is_within(x: f64, limit: f64) -> bool
-    ensures { result ≡ (lt x limit && lt (neg limit) x) }
+    ensures { result ≡ within x limit }
 {
     (x < limit) & (-limit < x)
 }

@@ -9,7 +9,6 @@ ghost use Rattle.arithmetic.specs.Internal.Exp.{near_zero, in_fast_range, clear_
 
 use super::basic::{is_within, trunc};
 use super::format::{FRACTION_DIGITS, PRECISION, TWO_TO_52};
-use std::num::saturating_f64_to_i64;
 
 // The sum of the two is ln 2: a k of 11 bits times LN2_HI is exact.
 pub(crate) const LN2_HI: f64 = 0.6931471803691238;
@@ -36,7 +35,7 @@ const P4: f64 = -1.65339022054652515390e-06;
 const P5: f64 = 4.13813679705723846039e-08;
 
 // An exponent k is counted from that of half the smallest value on: e = k + EXPONENT_OFFSET.
-const EXPONENT_OFFSET: i64 = 1075;
+const EXPONENT_OFFSET: f64 = 1075.0;
 
 // e of the largest k, 1024, and of the largest power of two that is an f64.
 const LAST_EXPONENT: u64 = 2099;
@@ -128,10 +127,7 @@ fn general(x: f64) -> f64
         return 0.0;
     }
     let k = trunc(half_away(x));
-    scale_b(
-        reduced(x, k),
-        (saturating_f64_to_i64(k) + EXPONENT_OFFSET) as u64,
-    )
+    scale_b(reduced(x, k), (k + EXPONENT_OFFSET) as u64)
 }
 
 // e^x of an x so near 0 that k is 0: `reduced` with a k of 0, where h is x and l is 0. With d for its quotient, (l - d) - h

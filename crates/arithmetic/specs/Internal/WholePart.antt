@@ -1,4 +1,4 @@
--- What `whole_part` promises, a step of `exp`; the proof of `trunc` uses it too. Definitions only.
+-- The whole part of a value, by which the proofs of `trunc` and `exp` go. Definitions only.
 use Rattle.std.specs.Prelude.{ℕ, ◌*◌, ◌/◌, ◌^◌, min, Float}
 use Rattle.std.specs.Float.{nan, inf, fin}
 use Rattle.std.specs.Float.Ieee.{up, down}

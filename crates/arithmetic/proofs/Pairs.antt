@@ -1,8 +1,12 @@
 -- What the functions of `pair` give, on numbers of at most 128 digits. Assumes nothing.
-use Rattle.std.proofs.Common.{◌≡◌, ℕ, ◌+◌, ◌-◌, ◌*◌, ◌/◌, ◌%◌, ◌^◌, ◌<◌, ◌≤◌, min, ◌⊎◌, sym, ap, ◌∙◌, subst, inl, inr, le_trans, lt_of_le_of_lt, lt_of_lt_of_le, add-zero, mod-eq_of_lt, eq-zero-or-pos, mul-pos, zero-mul, mul-le-mul_left, div-mul-le_self, mul-div_cancel, add-one, arith, pow_pos, pow_mono}
-use native.Mathlib.Nat.{mul-mod_left}
-use native.Mathlib.Nat.{div-eq_of_lt}
-use lib.Arith.{le-zero, digits_lt, mod-mul}
+use Rattle.std.proofs.Common.{◌≡◌, ℕ, zero, suc, ◌+◌, ◌-◌, ◌*◌, ◌/◌, ◌%◌, ◌^◌, ◌<◌, ◌≤◌, min, max, ◌⊎◌, sym, refl, ap, ◌∙◌, subst, inl, inr, le_trans, lt_of_le_of_lt, lt_of_lt_of_le, add-zero, mod-lt, mod-eq_of_lt, mul_assoc, eq-zero-or-pos, mul-pos, zero-mul, div-add-mod', div-mul-le_self, div-le_self, mul-div_cancel, add-one, arith, lit<, pow_pos, pow_mono}
+use native.Mathlib.Nat.{mul-mod_left, mul-add-mod_self_right}
+use native.Mathlib.Nat.{div-eq_of_lt, div-div-eq-div-mul}
+use Rattle.std.proofs.lemmas.Nat.{or_block}
+use lib.Bits.{bit_or, or_zero_r}
+use lib.Arith.{le-zero, digits_lt, digits_div, mod-mul}
+use lib.Pow.{mod-pow-add}
+use lib.Pow as Pow
 use lib.Count.{count_leading_zeros, leading_of_zero, leading_top}
 use lib.Ieee.{size}
 use lib.Ieee.Digits.{size-le}
@@ -32,28 +36,88 @@ low_shifted E F x P Q =
     ∙ ap (λ (y : ℕ). y + x * E % E) (ap (λ (y : ℕ). y % F * E) (mul-div_cancel x P))
     ∙ ap (λ (y : ℕ). x % F * E + y) (mul-mod_left x E) ∙ add-zero (x % F * E)
 
--- what is left of n after d + 1 bits
-twice_le : (n d : ℕ) → n / 2 ^ (d + 1) * 2 ≤ n
-twice_le n d =
-    le_trans (mul-le-mul_left (n / 2 ^ (d + 1)) (pow_mono {i = 1} {j = d + 1} (omega arith))) (div-mul-le_self n (2 ^ (d + 1)))
+-- of a number n of W digits the even part, and whether anything was cut from its lower word l
+pub even_part : (W n d : ℕ) → n < 2 ^ W → n / 2 ^ d / 2 * 2 % 2 ^ W ≡ n / 2 ^ (d + 1) * 2
+even_part W n d N =
+    let e : n / 2 ^ d / 2 ≡ n / 2 ^ (d + 1) = div-div-eq-div-mul n (2 ^ d) 2 ∙ ap (λ (x : ℕ). n / x) (pow_split d 1 (d + 1) refl) in
+    let least : n / 2 ^ d / 2 * 2 ≤ n = le_trans (div-mul-le_self (n / 2 ^ d) 2) (div-le_self n (2 ^ d)) in
+    mod-eq_of_lt (lt_of_le_of_lt least N) ∙ ap (λ (x : ℕ). x * 2) e
 
--- `even` and `dropped` of the code
-pub jam_near : (n d : ℕ) → n < 2 ^ 128 → d < 127 → n / 2 ^ (d + 1) * 2 % 2 ^ 128 + min (n * 2 ^ (127 - d) % 2 ^ 128) 1 ≡ jammed n d
-jam_near n d N h =
-    let e : 2 ^ (d + 1) * 2 ^ (127 - d) ≡ 2 ^ 128 = pow_split (d + 1) (127 - d) 128 (omega arith) in
-    let cut : n * 2 ^ (127 - d) % 2 ^ 128 ≡ n % 2 ^ (d + 1) * 2 ^ (127 - d) =
-    ap (λ (x : ℕ). n * 2 ^ (127 - d) % x) (sym e) ∙ low_shifted (2 ^ (127 - d)) (2 ^ (d + 1)) n (pow_pos (127 - d)) (pow_pos (d + 1)) in
-    ap (λ (x : ℕ). n / 2 ^ (d + 1) * 2 % 2 ^ 128 + min x 1) cut
-    ∙ ap (λ (x : ℕ). n / 2 ^ (d + 1) * 2 % 2 ^ 128 + x) (turned (n % 2 ^ (d + 1) * 2 ^ (127 - d)) ∙ min_scale (n % 2 ^ (d + 1)) (2 ^ (127 - d)) (pow_pos (127 - d)))
-    ∙ ap (λ (x : ℕ). x + min 1 (n % 2 ^ (d + 1))) (mod-eq_of_lt (lt_of_le_of_lt (twice_le n d) N))
+pub sticky_digit : (l d : ℕ) → d < 64 → min (l * 2 ^ (63 - d) % 2 ^ 64) 1 ≡ min 1 (l % 2 ^ (d + 1))
+sticky_digit l d h =
+    let e : 2 ^ (d + 1) * 2 ^ (63 - d) ≡ 2 ^ 64 = pow_split (d + 1) (63 - d) 64 (omega arith) in
+    let cut : l * 2 ^ (63 - d) % 2 ^ 64 ≡ l % 2 ^ (d + 1) * 2 ^ (63 - d) =
+    ap (λ (x : ℕ). l * 2 ^ (63 - d) % x) (sym e) ∙ low_shifted (2 ^ (63 - d)) (2 ^ (d + 1)) l (pow_pos (63 - d)) (pow_pos (d + 1)) in
+    ap (λ (x : ℕ). min x 1) cut ∙ turned (l % 2 ^ (d + 1) * 2 ^ (63 - d)) ∙ min_scale (l % 2 ^ (d + 1)) (2 ^ (63 - d)) (pow_pos (63 - d))
   where
     turned : (x : ℕ) → min x 1 ≡ min 1 x
     turned x = omega arith
 
-pub jam_far : (n d : ℕ) → n < 2 ^ 128 → 127 ≤ d → min n 1 ≡ jammed n d
-jam_far n d N h =
-    let under : n < 2 ^ (d + 1) = lt_of_lt_of_le N (pow_mono {i = 128} {j = d + 1} (omega arith)) in
+-- a word
+pub jam_word : (n d : ℕ) → n < 2 ^ 64 → d < 64 → n / 2 ^ d / 2 * 2 % 2 ^ 64 + min (n * 2 ^ (63 - d) % 2 ^ 64) 1 ≡ jammed n d
+jam_word n d N h = ap (λ (x : ℕ). x + min (n * 2 ^ (63 - d) % 2 ^ 64) 1) (even_part 64 n d N) ∙ ap (λ (x : ℕ). n / 2 ^ (d + 1) * 2 + x) (sticky_digit n d h)
+
+pub jam_word_far : (n d : ℕ) → n < 2 ^ 64 → 64 ≤ d → min n 1 ≡ jammed n d
+jam_word_far n d N h =
+    let under : n < 2 ^ (d + 1) = lt_of_lt_of_le N (pow_mono {i = 64} {j = d + 1} (omega arith)) in
     rw (div-eq_of_lt under, mod-eq_of_lt under) (omega arith)
+
+-- a pair of the halves h and l
+module _ (h l : ℕ) (L : l < 2 ^ 64) where
+  abbrev n : ℕ
+  n = h * 2 ^ 64 + l
+
+  pub jam_pair : (d : ℕ) → n < 2 ^ 128 → d < 64 → n / 2 ^ d / 2 * 2 % 2 ^ 128 + min (l * 2 ^ (63 - d) % 2 ^ 64) 1 ≡ jammed n d
+  jam_pair d N i =
+      let e : 2 ^ 64 ≡ 2 ^ (63 - d) * 2 ^ (d + 1) = sym (pow_split (63 - d) (d + 1) 64 (omega arith)) in
+      let same : l % 2 ^ (d + 1) ≡ n % 2 ^ (d + 1) =
+      sym (ap (λ (x : ℕ). (h * x + l) % 2 ^ (d + 1)) e
+      ∙ ap (λ (x : ℕ). (x + l) % 2 ^ (d + 1)) (sym (mul_assoc h (2 ^ (63 - d)) (2 ^ (d + 1))))
+      ∙ mul-add-mod_self_right (h * 2 ^ (63 - d)) (2 ^ (d + 1)) l) in
+      ap (λ (x : ℕ). x + min (l * 2 ^ (63 - d) % 2 ^ 64) 1) (even_part 128 n d N)
+      ∙ ap (λ (x : ℕ). n / 2 ^ (d + 1) * 2 + x) (sticky_digit l d i ∙ ap (min 1) same)
+
+  -- the lower half jammed into the last bit of the upper
+  or_last : bit_or h (min l 1) ≡ h / 2 * 2 + max (h % 2) (min l 1)
+  or_last =
+      ap (λ (x : ℕ). bit_or x (min l 1)) (sym (div-add-mod' h 2))
+      ∙ ap (bit_or (h / 2 * 2 + h % 2)) (over_none (min l 1))
+      ∙ or_block 1 (h / 2) 0 (h % 2) (min l 1) (mod-lt h (lit< tt)) (omega arith)
+      ∙ ap (λ (x : ℕ). x * 2 + bit_or (h % 2) (min l 1)) (or_zero_r (h / 2))
+      ∙ ap (λ (x : ℕ). h / 2 * 2 + x) (bits (h % 2) (min l 1) (mod-lt h (lit< tt)) (omega arith))
+    where
+      over_none : (x : ℕ) → x ≡ 0 * 2 + x
+      over_none x = omega arith
+
+      bits : (a b : ℕ) → a < 2 → b < 2 → bit_or a b ≡ max a b
+      bits zero b A B = omega arith
+      bits (suc zero) zero A B = refl
+      bits (suc zero) (suc zero) A B = refl
+      bits (suc zero) (suc (suc b)) A B = absurd (omega arith)
+      bits (suc (suc a)) b A B = absurd (omega arith)
+
+  pub jam_pair_far : (d : ℕ) → 64 ≤ d → jammed (bit_or h (min l 1)) (d - 64) ≡ jammed n d
+  jam_pair_far d D =
+      let k = d - 64 in
+      let m = bit_or h (min l 1) in
+      let half : m / 2 ≡ h / 2 = omega (arith, or_last) in
+      let q : m / 2 ^ (k + 1) ≡ n / 2 ^ (d + 1) =
+      by_half m k ∙ ap (λ (x : ℕ). x / 2 ^ k) half ∙ sym (by_half h k) ∙ ap (λ (x : ℕ). x / 2 ^ (k + 1)) (sym (digits_div h L))
+      ∙ div-div-eq-div-mul n (2 ^ 64) (2 ^ (k + 1)) ∙ ap (λ (x : ℕ). n / x) (pow_split 64 (k + 1) (d + 1) (omega arith)) in
+      let a = h / 2 % 2 ^ k in
+      let upper : h % 2 ^ (k + 1) ≡ h / 2 % 2 ^ k * 2 + h % 2 = mod-pow-add h k 1 in
+      let left : m % 2 ^ (k + 1) ≡ h / 2 % 2 ^ k * 2 + m % 2 = mod-pow-add m k 1 ∙ ap (λ (x : ℕ). x % 2 ^ k * 2 + m % 2) half in
+      let right : n % 2 ^ (d + 1) ≡ h % 2 ^ (k + 1) * 2 ^ 64 + l =
+      ap (λ (x : ℕ). n % 2 ^ x) (over d D) ∙ mod-pow-add n (k + 1) 64
+      ∙ ap (λ (x : ℕ). x % 2 ^ (k + 1) * 2 ^ 64 + n % 2 ^ 64) (Pow.high h 64 L) ∙ ap (λ (x : ℕ). h % 2 ^ (k + 1) * 2 ^ 64 + x) (Pow.low h 64 L) in
+      let r : min 1 (m % 2 ^ (k + 1)) ≡ min 1 (n % 2 ^ (d + 1)) = omega (arith, or_last, upper, left, right) in
+      ap (λ (x : ℕ). x * 2 + min 1 (m % 2 ^ (k + 1))) q ∙ ap (λ (x : ℕ). n / 2 ^ (d + 1) * 2 + x) r
+    where
+      over : (d : ℕ) → 64 ≤ d → d + 1 ≡ d - 64 + 1 + 64
+      over d h = omega arith
+
+      by_half : (x k : ℕ) → x / 2 ^ (k + 1) ≡ x / 2 / 2 ^ k
+      by_half x k = sym (div-div-eq-div-mul x 2 (2 ^ k) ∙ ap (λ (y : ℕ). x / y) (pow_split 1 k (k + 1) (omega arith)))
 
 -- ---- how many digits, by the zeros that lead
 pub digits_of : (n : ℕ) → n < 2 ^ 128 → 128 - count_leading_zeros 128 n ≡ size n

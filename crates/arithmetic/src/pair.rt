@@ -118,17 +118,17 @@ impl Pair {
         }
     }
 
-    // The number divided by 2^d, cut to a whole number, whose last bit is set too where anything but 0 was cut.
+    // The number divided by 2^d, cut to a whole number, whose last bit is set too where anything but 0 was cut. From 64 on
+    // the lower word is cut first.
     pub(crate) fn jam(self, d: u64) -> Pair
         ensures { val result ≡ jammed (val self) d }
     {
-        let n = u128::from(self);
-        if d < BOTH_WORDS - 1 {
-            let even = (n >> (d + 1)) << 1u64;
-            let dropped = n << (BOTH_WORDS - 1 - d);
-            Pair::from(even + dropped.min(1))
+        if d < WORD {
+            let even = ((u128::from(self) >> d) >> 1u64) << 1u64;
+            let dropped = self.lo << (WORD - 1 - d);
+            Pair::from(even + u128::from(dropped.min(1)))
         } else {
-            Pair::from(n.min(1))
+            Pair::from(jam(self.hi | self.lo.min(1), d - WORD))
         }
     }
 
@@ -137,6 +137,19 @@ impl Pair {
         ensures { result ≡ Ieee.size (val self) }
     {
         BOTH_WORDS - u128::from(self).leading_zeros() as u64
+    }
+}
+
+// The same of a word.
+fn jam(n: u64, d: u64) -> u64
+    ensures { result ≡ jammed n d }
+{
+    if d < WORD {
+        let even = ((n >> d) >> 1u64) << 1u64;
+        let dropped = n << (WORD - 1 - d);
+        even + dropped.min(1)
+    } else {
+        n.min(1)
     }
 }
 

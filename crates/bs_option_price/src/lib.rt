@@ -64,12 +64,14 @@ fn asymptotic_expansion_of_scaled_normalised_black(h: f64, t: f64) -> f64
     ensures { result ≡ asymptotic_expansion_of_scaled_normalised_black h t }
 {
     let t_over_h = t / h;
-    let e = t_over_h * t_over_h;
     let r = mul_add2_sel(t, -t, h * h);
     let h_over_r = h / r;
-    let q = h_over_r * h_over_r;
+    let expansion = AsymptoticExpansion {
+        q: h_over_r * h_over_r,
+        e: t_over_h * t_over_h,
+    };
     let idx = position(-h - t + TAU + 0.5);
-    (t / r) * omega(tail(idx, q, e), q, e)
+    (t / r) * expansion.omega(expansion.tail(idx))
 }
 
 // The index of the first threshold above the value, or 12.
@@ -82,39 +84,52 @@ fn position(value: f64) -> usize
         .unwrap_or(THRESHOLDS.len())
 }
 
-// One coefficient more, if the position is at most n.
-#[tactic(auto, unfolding(crate::specs::BsOptionPrice::term))]
-fn term(idx: usize, n: usize, omega: f64, q: f64, e: f64) -> f64
-    requires { n < 12 }
-    ensures { result ≡ term idx n omega q (a (16 - n) e) }
-{
-    if idx <= n {
-        mul_add2_sel(omega, q, a(16 - n, e))
-    } else {
-        omega
-    }
+// The asymptotic expansion in q, whose coefficients are polynomials of e.
+#[derive(Clone, Copy)]
+struct AsymptoticExpansion {
+    q: f64,
+    e: f64,
 }
 
-// What the coefficients down to a5 add: a16 at position 0, one fewer at each position, none from 12 on.
-#[tactic(auto, using(crate::proofs::Expansion::next_term), unfolding(crate::specs::BsOptionPrice::tail, crate::specs::BsOptionPrice::omega_over_q))]
-fn tail(idx: usize, q: f64, e: f64) -> f64
-    ensures { result ≡ tail idx q e }
-{
-    if idx >= THRESHOLDS.len() {
-        return 0.0;
+impl AsymptoticExpansion {
+    // One coefficient more, if the position is at most n.
+    #[tactic(auto, unfolding(crate::specs::BsOptionPrice::term))]
+    fn term(self, idx: usize, n: usize, omega: f64) -> f64
+        requires { n < 12 }
+        ensures { result ≡ term idx n omega self.q (a (16 - n) self.e) }
+    {
+        if idx <= n {
+            mul_add2_sel(omega, self.q, a(16 - n, self.e))
+        } else {
+            omega
+        }
     }
-    let mut omega = 0.0;
-    for n in 0..THRESHOLDS.len() {
-        omega = term(idx, n, omega, q, e);
-    }
-    q * omega
-}
 
-#[tactic(auto, unfolding(crate::specs::BsOptionPrice::omega))]
-fn omega(tail: f64, q: f64, e: f64) -> f64
-    ensures { result ≡ omega tail q e }
-{
-    nested(q, &[a(4, e) + tail, a(3, e), a(2, e), a(1, e), a(0, e)])
+    // What the coefficients down to a5 add: a16 at position 0, one fewer at each position, none from 12 on.
+    #[tactic(auto, using(crate::proofs::Expansion::next_term), unfolding(crate::specs::BsOptionPrice::tail, crate::specs::BsOptionPrice::omega_over_q))]
+    fn tail(self, idx: usize) -> f64
+        ensures { result ≡ tail idx self.q self.e }
+    {
+        if idx >= THRESHOLDS.len() {
+            return 0.0;
+        }
+        let mut omega = 0.0;
+        for n in 0..THRESHOLDS.len() {
+            omega = self.term(idx, n, omega);
+        }
+        self.q * omega
+    }
+
+    #[tactic(auto, unfolding(crate::specs::BsOptionPrice::omega))]
+    fn omega(self, tail: f64) -> f64
+        ensures { result ≡ omega tail self.q self.e }
+    {
+        let e = self.e;
+        nested(
+            self.q,
+            &[a(4, e) + tail, a(3, e), a(2, e), a(1, e), a(0, e)],
+        )
+    }
 }
 
 #[tactic(auto, unfolding(crate::specs::BsOptionPrice::small_t_expansion_of_scaled_normalised_black))]

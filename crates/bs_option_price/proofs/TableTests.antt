@@ -2,7 +2,7 @@
 -- is refused there by that law. Assumes nothing.
 use Rattle.std.specs.Prelude.{T}
 use Rattle.bs_option_price.specs.Table.{follows_rule, entry, nearest_entry}
-use Rattle.bs_option_price.specs.Laws.Table.{all_below, all_entries, is_nearest}
+use Rattle.bs_option_price.specs.Laws.Table.{all_entries, is_nearest}
 
 pub all_follow_rule : T (all_entries follows_rule)
 unfolding all_entries follows_rule

@@ -20,9 +20,10 @@ use arithmetic::fused_multiply_add::mul_add2_sel;
 use arithmetic::ln::{ln, ln_1p};
 use special_function::constants::{FRAC_1_SQRT_2_PI, SIXTEENTH_ROOT_DBL_EPSILON, SQRT_PI_OVER_2};
 use special_function::error_function::{erfc_cody, erfcx_cody};
-use special_function::polynomial::{evaluate, nested, rational};
+use special_function::polynomial::{RationalFunction, evaluate, nested};
 use table::a;
 
+#[tactic(auto, unfolding(crate::specs::BsOptionPrice::normalised_black))]
 pub fn normalised_black(half_theta_x: f64, h: f64, t: f64) -> f64
     ensures { result ≡ normalised_black half_theta_x h t }
 {
@@ -40,12 +41,14 @@ pub fn normalised_black(half_theta_x: f64, h: f64, t: f64) -> f64
 
 const ETA: f64 = -13.0;
 
+#[tactic(auto, unfolding(crate::specs::BsOptionPrice::is_region1))]
 fn is_region1(h: f64, t: f64) -> bool
     ensures { result ≡ is_region1 h t }
 {
     h < ETA && t + h < TAU + 0.5 + ETA
 }
 
+#[tactic(auto, unfolding(crate::specs::BsOptionPrice::is_region2))]
 fn is_region2(h: f64, t: f64) -> bool
     ensures { result ≡ is_region2 h t }
 {
@@ -56,73 +59,80 @@ const THRESHOLDS: [f64; 12] = [
     12.347, 12.958, 13.729, 14.718, 16.016, 17.769, 20.221, 23.816, 29.419, 38.93, 57.171, 99.347,
 ];
 
+#[tactic(auto, unfolding(crate::specs::BsOptionPrice::asymptotic_expansion_of_scaled_normalised_black))]
 fn asymptotic_expansion_of_scaled_normalised_black(h: f64, t: f64) -> f64
     ensures { result ≡ asymptotic_expansion_of_scaled_normalised_black h t }
 {
     let t_over_h = t / h;
-    let e = t_over_h * t_over_h;
     let r = mul_add2_sel(t, -t, h * h);
     let h_over_r = h / r;
-    let q = h_over_r * h_over_r;
+    let expansion = AsymptoticExpansion {
+        q: h_over_r * h_over_r,
+        e: t_over_h * t_over_h,
+    };
     let idx = position(-h - t + TAU + 0.5);
-    (t / r) * omega(tail(idx, q, e), q, e)
+    (t / r) * expansion.omega(expansion.tail(idx))
 }
 
 // The index of the first threshold above the value, or 12.
 fn position(value: f64) -> usize
     ensures { result ≡ position value }
 {
-    let thresholds = THRESHOLDS;
-    let mut i: usize = 0;
-    while i < 12 {
-        if value < thresholds[i] {
-            return i;
+    THRESHOLDS
+        .iter()
+        .position(|threshold| value < *threshold)
+        .unwrap_or(THRESHOLDS.len())
+}
+
+// The asymptotic expansion in q, whose coefficients are polynomials of e.
+#[derive(Clone, Copy)]
+struct AsymptoticExpansion {
+    q: f64,
+    e: f64,
+}
+
+impl AsymptoticExpansion {
+    // One coefficient more, if the position is at most n.
+    #[tactic(auto, unfolding(crate::specs::BsOptionPrice::term))]
+    fn term(self, idx: usize, n: usize, omega: f64) -> f64
+        requires { n < 12 }
+        ensures { result ≡ term idx n omega self.q (a (16 - n) self.e) }
+    {
+        if idx <= n {
+            mul_add2_sel(omega, self.q, a(16 - n, self.e))
+        } else {
+            omega
         }
-        i += 1;
     }
-    i
-}
 
-// One coefficient more, if the position is at most n.
-fn term(idx: usize, n: usize, omega: f64, q: f64, e: f64) -> f64
-    requires { n < 12 }
-    ensures { result ≡ term idx n omega q (a (16 - n) e) }
-{
-    if idx <= n {
-        mul_add2_sel(omega, q, a(16 - n, e))
-    } else {
-        omega
+    // What the coefficients down to a5 add: a16 at position 0, one fewer at each position, none from 12 on.
+    #[tactic(auto, using(crate::proofs::Expansion::next_term), unfolding(crate::specs::BsOptionPrice::tail, crate::specs::BsOptionPrice::omega_over_q))]
+    fn tail(self, idx: usize) -> f64
+        ensures { result ≡ tail idx self.q self.e }
+    {
+        if idx >= THRESHOLDS.len() {
+            return 0.0;
+        }
+        let mut omega = 0.0;
+        for n in 0..THRESHOLDS.len() {
+            omega = self.term(idx, n, omega);
+        }
+        self.q * omega
+    }
+
+    #[tactic(auto, unfolding(crate::specs::BsOptionPrice::omega))]
+    fn omega(self, tail: f64) -> f64
+        ensures { result ≡ omega tail self.q self.e }
+    {
+        let e = self.e;
+        nested(
+            self.q,
+            &[a(4, e) + tail, a(3, e), a(2, e), a(1, e), a(0, e)],
+        )
     }
 }
 
-// What the coefficients down to a5 add: a16 at position 0, one fewer at each position, none from 12 on.
-fn tail(idx: usize, q: f64, e: f64) -> f64
-    ensures { result ≡ tail idx q e }
-{
-    if 12 <= idx {
-        return 0.0;
-    }
-    let omega = term(idx, 0, 0.0, q, e);
-    let omega = term(idx, 1, omega, q, e);
-    let omega = term(idx, 2, omega, q, e);
-    let omega = term(idx, 3, omega, q, e);
-    let omega = term(idx, 4, omega, q, e);
-    let omega = term(idx, 5, omega, q, e);
-    let omega = term(idx, 6, omega, q, e);
-    let omega = term(idx, 7, omega, q, e);
-    let omega = term(idx, 8, omega, q, e);
-    let omega = term(idx, 9, omega, q, e);
-    let omega = term(idx, 10, omega, q, e);
-    let omega = term(idx, 11, omega, q, e);
-    q * omega
-}
-
-fn omega(tail: f64, q: f64, e: f64) -> f64
-    ensures { result ≡ omega tail q e }
-{
-    nested(q, &[a(4, e) + tail, a(3, e), a(2, e), a(1, e), a(0, e)])
-}
-
+#[tactic(auto, unfolding(crate::specs::BsOptionPrice::small_t_expansion_of_scaled_normalised_black))]
 fn small_t_expansion_of_scaled_normalised_black(h: f64, t: f64) -> f64
     ensures { result ≡ small_t_expansion_of_scaled_normalised_black h t }
 {
@@ -149,12 +159,14 @@ fn b0(a: f64) -> f64
     2.0 * a
 }
 
+#[tactic(auto, unfolding(crate::specs::BsOptionPrice::b1))]
 fn b1(a: f64, h2: f64) -> f64
     ensures { result ≡ b1 a h2 }
 {
     mul_add2_sel(a, 3.0 + h2, -1.0) / 3.0
 }
 
+#[tactic(auto, unfolding(crate::specs::BsOptionPrice::b2))]
 fn b2(a: f64, h2: f64) -> f64
     ensures { result ≡ b2 a h2 }
 {
@@ -162,6 +174,7 @@ fn b2(a: f64, h2: f64) -> f64
 }
 
 // What b3 to b6 share: a polynomial of h2 times a, plus another, over a divisor.
+#[tactic(auto, unfolding(crate::specs::BsOptionPrice::b))]
 fn b(a: f64, h2: f64, factor: &[f64], rest: &[f64], divisor: f64) -> f64
     ensures { result ≡ b a h2 factor.now rest.now divisor }
 {
@@ -216,6 +229,7 @@ fn b6(a: f64, h2: f64) -> f64
     )
 }
 
+#[tactic(auto, unfolding(crate::specs::BsOptionPrice::y_prime))]
 fn y_prime(h: f64) -> f64
     ensures { result ≡ y_prime h }
 {
@@ -230,6 +244,7 @@ fn y_prime(h: f64) -> f64
 }
 
 // The source's quotient for h from -4 to -0.46875. Its first products are by h, the others by -h.
+#[tactic(auto, unfolding(crate::specs::BsOptionPrice::y_prime_middle))]
 fn y_prime_middle(h: f64) -> f64
     ensures { result ≡ y_prime_middle h }
 {
@@ -258,34 +273,35 @@ fn y_prime_middle(h: f64) -> f64
     )
 }
 
+const Y_PRIME_TAIL: RationalFunction<6, 7> = RationalFunction {
+    numerator: [
+        -6.681_824_903_261_685E4,
+        -8.383_602_146_074_198E4,
+        -2.780_574_569_386_430_8E4,
+        -3.473_503_544_549_563_2E3,
+        -1.755_626_332_354_220_6E2,
+        -2.999_999_999_999_466,
+    ],
+    denominator: [
+        6.928_651_867_980_375E4,
+        1.256_997_038_092_390_9E5,
+        6.688_679_416_565_168E4,
+        1.456_254_563_850_703_4E4,
+        1.440_438_903_760_433_7E3,
+        6.352_087_774_483_173_6E1,
+        1.0,
+    ],
+};
+
 fn y_prime_tail_expansion_rational_function_part_plus_1(w: f64) -> f64
     ensures { result ≡ y_prime_tail_expansion_rational_function_part_plus1 w }
 {
-    let quotient = rational(
-        w,
-        &[
-            -6.681_824_903_261_685E4,
-            -8.383_602_146_074_198E4,
-            -2.780_574_569_386_430_8E4,
-            -3.473_503_544_549_563_2E3,
-            -1.755_626_332_354_220_6E2,
-            -2.999_999_999_999_466,
-        ],
-        &[
-            6.928_651_867_980_375E4,
-            1.256_997_038_092_390_9E5,
-            6.688_679_416_565_168E4,
-            1.456_254_563_850_703_4E4,
-            1.440_438_903_760_433_7E3,
-            6.352_087_774_483_173_6E1,
-            1.0,
-        ],
-    );
-    mul_add2_sel(quotient, w, 1.0)
+    mul_add2_sel(Y_PRIME_TAIL.at(w), w, 1.0)
 }
 
 const TAU: f64 = 2.0 * SIXTEENTH_ROOT_DBL_EPSILON;
 
+#[tactic(auto, unfolding(crate::specs::BsOptionPrice::normalised_black_with_optimal_use_of_codys_functions))]
 fn normalised_black_with_optimal_use_of_codys_functions(half_theta_x: f64, h: f64, t: f64) -> f64
     ensures { result ≡ normalised_black_with_optimal_use_of_codys_functions half_theta_x h t }
 {
@@ -293,6 +309,7 @@ fn normalised_black_with_optimal_use_of_codys_functions(half_theta_x: f64, h: f6
     normalised_black_with_optimal_use_of_codys_functions_impl(half_theta_x, h, t, exp_neg_q)
 }
 
+#[tactic(auto, unfolding(crate::specs::BsOptionPrice::normalised_black_with_optimal_use_of_codys_functions_impl))]
 fn normalised_black_with_optimal_use_of_codys_functions_impl(
     half_theta_x: f64,
     h: f64,
@@ -309,6 +326,7 @@ fn normalised_black_with_optimal_use_of_codys_functions_impl(
 const CODYS_THRESHOLD: f64 = 0.46875;
 
 // Twice the price: q1 and q2 choose between erfc and erfcx, each on its side of the threshold.
+#[tactic(auto, unfolding(crate::specs::BsOptionPrice::two_b))]
 fn two_b(half_theta_x: f64, q1: f64, q2: f64, exp_neg_q: f64) -> f64
     ensures { result ≡ two_b half_theta_x q1 q2 exp_neg_q }
 {
@@ -337,12 +355,14 @@ fn two_b(half_theta_x: f64, q1: f64, q2: f64, exp_neg_q: f64) -> f64
     }
 }
 
+#[tactic(auto, unfolding(crate::specs::BsOptionPrice::normalised_vega))]
 pub fn normalised_vega(h: f64, t: f64) -> f64
     ensures { result ≡ normalised_vega h t }
 {
     FRAC_1_SQRT_2_PI * exp(-0.5 * mul_add2_sel(t, t, h * h))
 }
 
+#[tactic(auto, unfolding(crate::specs::BsOptionPrice::negative_abs_log_moneyness))]
 pub fn negative_abs_log_moneyness(f: f64, k: f64) -> f64
     ensures { result ≡ negative_abs_log_moneyness f k }
 {

@@ -180,28 +180,28 @@ const TABLE: [f64; 153] = [
 
 // The source's a0 to a16: ak at e. A part with fixed ends is compiled to constants; one whose ends are variables would
 // store the whole table to the stack at each call.
+#[tactic(auto, unfolding(crate::specs::Table::a, crate::specs::Table::row, crate::specs::Table::table))]
 pub(crate) fn a(k: usize, e: f64) -> f64
     requires { k < 17 }
     ensures { result ≡ a k e }
 {
-    let table = TABLE;
     match k {
-        0 => nested(e, &table[0..1]),
-        1 => nested(e, &table[1..3]),
-        2 => nested(e, &table[3..6]),
-        3 => nested(e, &table[6..10]),
-        4 => nested(e, &table[10..15]),
-        5 => nested(e, &table[15..21]),
-        6 => nested(e, &table[21..28]),
-        7 => nested(e, &table[28..36]),
-        8 => nested(e, &table[36..45]),
-        9 => nested(e, &table[45..55]),
-        10 => nested(e, &table[55..66]),
-        11 => nested(e, &table[66..78]),
-        12 => nested(e, &table[78..91]),
-        13 => nested(e, &table[91..105]),
-        14 => nested(e, &table[105..120]),
-        15 => nested(e, &table[120..136]),
-        _ => nested(e, &table[136..153]),
+        0 => nested(e, &TABLE[0..1]),
+        1 => nested(e, &TABLE[1..3]),
+        2 => nested(e, &TABLE[3..6]),
+        3 => nested(e, &TABLE[6..10]),
+        4 => nested(e, &TABLE[10..15]),
+        5 => nested(e, &TABLE[15..21]),
+        6 => nested(e, &TABLE[21..28]),
+        7 => nested(e, &TABLE[28..36]),
+        8 => nested(e, &TABLE[36..45]),
+        9 => nested(e, &TABLE[45..55]),
+        10 => nested(e, &TABLE[55..66]),
+        11 => nested(e, &TABLE[66..78]),
+        12 => nested(e, &TABLE[78..91]),
+        13 => nested(e, &TABLE[91..105]),
+        14 => nested(e, &TABLE[105..120]),
+        15 => nested(e, &TABLE[120..136]),
+        _ => nested(e, &TABLE[136..153]),
     }
 }

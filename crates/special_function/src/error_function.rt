@@ -31,13 +31,12 @@ const B: [f64; 4] = [
     2_844.236_833_439_170_62,
 ];
 
+#[tactic(auto, unfolding(crate::specs::ErrorFunction::ab))]
 fn ab(z: f64) -> f64
     ensures { result ≡ ab z }
 {
-    let a = A;
-    let b = B;
-    evaluate(mul_add2_sel(z, a[4], a[0]), &a[1..4], z)
-        / evaluate(mul_add2_sel(z, 1.0, b[0]), &b[1..4], z)
+    evaluate(mul_add2_sel(z, A[4], A[0]), &A[1..4], z)
+        / evaluate(mul_add2_sel(z, 1.0, B[0]), &B[1..4], z)
 }
 
 const C: [f64; 9] = [
@@ -63,12 +62,11 @@ const D: [f64; 8] = [
     1_230.339_354_803_749_42,
 ];
 
+#[tactic(auto, unfolding(crate::specs::ErrorFunction::cd))]
 fn cd(y: f64) -> f64
     ensures { result ≡ cd y }
 {
-    let c = C;
-    let d = D;
-    evaluate(c[8], &c[0..8], y) / evaluate(y + d[0], &d[1..8], y)
+    evaluate(C[8], &C[0..8], y) / evaluate(y + D[0], &D[1..8], y)
 }
 
 const P: [f64; 6] = [
@@ -88,12 +86,11 @@ const Q: [f64; 5] = [
     0.002_335_204_976_268_691_85,
 ];
 
+#[tactic(auto, unfolding(crate::specs::ErrorFunction::pq))]
 fn pq(z: f64) -> f64
     ensures { result ≡ pq z }
 {
-    let p = P;
-    let q = Q;
-    z * evaluate(p[5], &p[0..5], z) / evaluate(z + q[0], &q[1..5], z)
+    z * evaluate(P[5], &P[0..5], z) / evaluate(z + Q[0], &Q[1..5], z)
 }
 
 // 3 * 2^47. A sum with this is rounded to a multiple of 1/16, which the last digits of its pattern count.
@@ -104,6 +101,7 @@ const TABLE_END: f64 = 2.75;
 
 // y_tilde is y cut to a multiple of 1/16. By the sum it is the multiple nearest to y - 1/32; at an odd multiple of 1/16 that
 // is a tie, which gives the one below y. There the second test fails.
+#[tactic(auto, unfolding(crate::specs::ErrorFunction::smoothened_exponential_of_negative_square))]
 fn smoothened_exponential_of_negative_square(y: f64) -> f64
     ensures { result ≡ smoothened_exponential_of_negative_square y }
 {
@@ -119,6 +117,7 @@ fn smoothened_exponential_of_negative_square(y: f64) -> f64
     exp_product(-(y_tilde * y_tilde), -(y - y_tilde) * (y + y_tilde))
 }
 
+#[tactic(auto, unfolding(crate::specs::ErrorFunction::smoothened_exponential_of_positive_square))]
 fn smoothened_exponential_of_positive_square(x: f64) -> f64
     ensures { result ≡ smoothened_exponential_of_positive_square x }
 {
@@ -134,6 +133,7 @@ const XBIG: f64 = 26.543;
 
 const ONE_OVER_SQRT_PI: f64 = 0.564_189_583_547_756_3;
 
+#[tactic(auto, unfolding(crate::specs::ErrorFunction::erf_cody))]
 pub fn erf_cody(x: f64) -> f64
     ensures { result ≡ erf_cody x }
 {
@@ -161,6 +161,7 @@ pub fn erf_cody(x: f64) -> f64
     }
 }
 
+#[tactic(auto, unfolding(crate::specs::ErrorFunction::erfc_cody))]
 pub fn erfc_cody(x: f64) -> f64
     ensures { result ≡ erfc_cody x }
 {
@@ -177,6 +178,7 @@ pub fn erfc_cody(x: f64) -> f64
 }
 
 // erfc(y) for y above the threshold, which `erfc_cody` takes at |x|.
+#[tactic(auto, unfolding(crate::specs::ErrorFunction::erfc_above_threshold))]
 fn erfc_above_threshold(y: f64) -> f64
     ensures { result ≡ erfc_above_threshold y }
 {
@@ -186,6 +188,7 @@ fn erfc_above_threshold(y: f64) -> f64
     erfcx_cody_above_threshold(y) * smoothened_exponential_of_negative_square(y)
 }
 
+#[tactic(auto, unfolding(crate::specs::ErrorFunction::erfcx_cody_above_threshold))]
 fn erfcx_cody_above_threshold(y: f64) -> f64
     ensures { result ≡ erfcx_cody_above_threshold y }
 {
@@ -196,6 +199,7 @@ fn erfcx_cody_above_threshold(y: f64) -> f64
     }
 }
 
+#[tactic(auto, unfolding(crate::specs::ErrorFunction::erfcx_cody))]
 pub fn erfcx_cody(x: f64) -> f64
     ensures { result ≡ erfcx_cody x }
 {
@@ -216,6 +220,7 @@ pub fn erfcx_cody(x: f64) -> f64
     }
 }
 
+#[tactic(auto, unfolding(crate::specs::Erfinv::erfinv))]
 pub fn erfinv(e: f64) -> f64
     ensures { result ≡ erfinv e }
 {

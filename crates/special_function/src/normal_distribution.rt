@@ -5,8 +5,9 @@ ghost use Rattle.special_function.specs.NormalDistribution.{norm_pdf, next, goes
 ghost use Rattle.special_function.specs.NormalDistribution.{inverse_norm_cdfm_half_for_midrange_probabilities};
 ghost use Rattle.special_function.specs.NormalDistribution.{inverse_norm_cdf_for_low_probabilities, inverse_norm_cdf};
 
+use crate::constants::FRAC_1_SQRT_2_PI;
 use crate::error_function::erfc_cody;
-use crate::polynomial::rational;
+use crate::polynomial::RationalFunction;
 use arithmetic::basic::abs;
 use arithmetic::constants::{EPSILON, FRAC_1_SQRT_2, MAX};
 use arithmetic::exp::exp;
@@ -14,34 +15,30 @@ use arithmetic::fused_multiply_add::mul_add2_sel;
 use arithmetic::ln::ln;
 use arithmetic::sqrt::sqrt;
 
-// 1/√(2π). The source's file has this constant of its own beside FRAC_1_SQRT_2_PI of constants.rs, with the same bits.
-const FRAC_SQRT_2_PI: f64 = 0.398_942_280_401_432_65;
-
 // The density at x, x2 being x².
+#[tactic(auto, unfolding(crate::specs::NormalDistribution::norm_pdf))]
 pub fn norm_pdf(x2: f64) -> f64
     ensures { result ≡ norm_pdf x2 }
 {
-    FRAC_SQRT_2_PI * exp(-0.5 * x2)
+    FRAC_1_SQRT_2_PI * exp(-0.5 * x2)
 }
 
 // Equal numbers with equal bits.
+#[tactic(auto, using(crate::specs::Laws::SharedExponential::equal_numbers))]
 fn is_same(x: f64, y: f64) -> bool
     ensures { result ≡ same x y }
 {
-    if x == y {
-        f64::to_bits(x) == f64::to_bits(y)
-    } else {
-        false
-    }
+    x == y && x.to_bits() == y.to_bits()
 }
 
 // norm_pdf(a * a) for a caller that has exp(-0.5 * a * a), which is used where its argument is the number -0.5 * (a * a):
 // that can fail only where a product underflows or overflows, and for a NaN.
+#[tactic(auto, unfolding(crate::specs::Internal::SharedExponential::norm_pdf_of_square))]
 pub fn norm_pdf_of_square(a: f64, exponential: f64) -> f64
     ensures { result ≡ norm_pdf_of_square a exponential }
 {
     if is_same(-0.5 * (a * a), -0.5 * a * a) {
-        return FRAC_SQRT_2_PI * exponential;
+        return FRAC_1_SQRT_2_PI * exponential;
     }
     norm_pdf(a * a)
 }
@@ -58,6 +55,7 @@ struct Expansion {
 
 impl Expansion {
     // One iteration takes two terms of the series, of opposite signs, off the sum as one difference.
+    #[tactic(auto, unfolding(crate::specs::NormalDistribution::next))]
     fn next(self, zsqr: f64) -> Expansion
         ensures { result ≡ next zsqr self }
     {
@@ -73,6 +71,7 @@ impl Expansion {
     }
 
     // What was taken off is smaller than in the iteration before, and still counts in the sum.
+    #[tactic(auto, unfolding(crate::specs::NormalDistribution::goes_on))]
     fn goes_on(self, lasta: f64) -> bool
         ensures { result ≡ goes_on lasta self }
     {
@@ -81,6 +80,7 @@ impl Expansion {
 }
 
 // The sum after the first iteration whose terms no longer fall, or no longer count.
+#[tactic(auto, using(crate::proofs::AsymptoticSum::magnitude_falls, crate::proofs::AsymptoticSum::sum_at_stop))]
 fn asymptotic_sum(zsqr: f64) -> f64
     ensures { result ≡ asymptotic_sum zsqr }
 {
@@ -103,6 +103,7 @@ const NORM_CDF_ASYMPTOTIC_EXPANSION_FIRST_THRESHOLD: f64 = -10.0;
 
 const NORM_CDF_ASYMPTOTIC_EXPANSION_SECOND_THRESHOLD: f64 = -67_108_864.0;
 
+#[tactic(auto, unfolding(crate::specs::NormalDistribution::norm_cdf))]
 pub fn norm_cdf(z: f64) -> f64
     ensures { result ≡ norm_cdf z }
 {
@@ -120,140 +121,148 @@ pub const U_MAX: f64 = 0.341_344_746_068_542_9;
 
 const U_MAX2: f64 = U_MAX * U_MAX;
 
-const NUMERATOR: [f64; 7] = [
-    -7.589_398_814_012_592_5,
-    1.342_332_435_026_538_6E2,
-    6.904_892_420_614_086E2,
-    7.499_778_145_665_792E2,
-    3.018_705_419_229_339E2,
-    5.026_057_216_730_31E1,
-    2.929_589_546_983_088,
-];
-
-const DENOMINATOR: [f64; 6] = [
-    1.792_270_085_081_026E2,
-    4.791_239_145_097_567_3E2,
-    3.868_212_085_404_174_4E2,
-    1.294_041_204_487_553E2,
-    1.891_853_807_457_46E1,
-    1.0,
-];
+const MIDRANGE: RationalFunction<7, 6> = RationalFunction {
+    numerator: [
+        -7.589_398_814_012_592_5,
+        1.342_332_435_026_538_6E2,
+        6.904_892_420_614_086E2,
+        7.499_778_145_665_792E2,
+        3.018_705_419_229_339E2,
+        5.026_057_216_730_31E1,
+        2.929_589_546_983_088,
+    ],
+    denominator: [
+        1.792_270_085_081_026E2,
+        4.791_239_145_097_567_3E2,
+        3.868_212_085_404_174_4E2,
+        1.294_041_204_487_553E2,
+        1.891_853_807_457_46E1,
+        1.0,
+    ],
+};
 
 pub fn inverse_norm_cdfm_half_for_midrange_probabilities(u: f64) -> f64
     ensures { result ≡ inverse_norm_cdfm_half_for_midrange_probabilities u }
 {
     let s = mul_add2_sel(u, -u, U_MAX2);
-    u * rational(s, &NUMERATOR, &DENOMINATOR)
+    u * MIDRANGE.at(s)
 }
 
 // Numerators and denominators for r below 2.05, 3.41, 6.7, 12.9, and from there on.
-const NUMERATOR_I: [f64; 6] = [
-    -13.054_072_340_494_093,
-    -83.383_894_003_636_97,
-    -74.594_687_726_045_93,
-    65.451_292_110_261_45,
-    47.170_590_600_740_69,
-    3.691_562_302_945_566,
-];
+const TAIL_I: RationalFunction<6, 6> = RationalFunction {
+    numerator: [
+        -13.054_072_340_494_093,
+        -83.383_894_003_636_97,
+        -74.594_687_726_045_93,
+        65.451_292_110_261_45,
+        47.170_590_600_740_69,
+        3.691_562_302_945_566,
+    ],
+    denominator: [
+        0.000_182_951_748_520_535_3,
+        9.221_688_797_873_743,
+        59.270_122_556_046_076,
+        71.813_812_182_579_26,
+        20.837_211_328_697_755,
+        1.0,
+    ],
+};
 
-const DENOMINATOR_I: [f64; 6] = [
-    0.000_182_951_748_520_535_3,
-    9.221_688_797_873_743,
-    59.270_122_556_046_076,
-    71.813_812_182_579_26,
-    20.837_211_328_697_755,
-    1.0,
-];
+const TAIL_II: RationalFunction<6, 6> = RationalFunction {
+    numerator: [
+        -1.201_314_787_943_552_6,
+        -10.059_163_395_686_461,
+        -18.125_442_779_178_92,
+        0.683_973_702_565_915_3,
+        14.491_778_286_891_22,
+        3.234_017_911_631_797,
+    ],
+    denominator: [
+        0.000_010_957_576_098_829_594,
+        0.848_848_921_991_492_5,
+        7.136_981_105_610_977,
+        14.656_370_665_176_8,
+        8.882_093_177_330_434,
+        1.0,
+    ],
+};
 
-const NUMERATOR_II: [f64; 6] = [
-    -1.201_314_787_943_552_6,
-    -10.059_163_395_686_461,
-    -18.125_442_779_178_92,
-    0.683_973_702_565_915_3,
-    14.491_778_286_891_22,
-    3.234_017_911_631_797,
-];
+const TAIL_III: RationalFunction<6, 6> = RationalFunction {
+    numerator: [
+        -1.541_431_949_401_359_8E-1,
+        -2.869_906_133_588_252_8,
+        -1.107_053_468_930_936_7E1,
+        -5.163_392_911_552_553,
+        9.948_372_431_703_657,
+        3.125_223_578_008_758_3,
+    ],
+    denominator: [
+        1.356_598_356_444_129_7E-7,
+        1.089_797_223_413_183E-1,
+        2.030_707_606_430_904,
+        8.108_634_112_236_153,
+        7.076_769_154_309_171,
+        1.0,
+    ],
+};
 
-const DENOMINATOR_II: [f64; 6] = [
-    0.000_010_957_576_098_829_594,
-    0.848_848_921_991_492_5,
-    7.136_981_105_610_977,
-    14.656_370_665_176_8,
-    8.882_093_177_330_434,
-    1.0,
-];
+const TAIL_IV: RationalFunction<6, 6> = RationalFunction {
+    numerator: [
+        -0.016_123_033_183_901_45,
+        -0.475_951_695_467_832_17,
+        -2.964_425_135_315_060_4,
+        -3.688_196_041_019_692,
+        2.250_881_388_987_032,
+        2.616_126_495_089_728_3,
+    ],
+    denominator: [
+        0.000_000_003_084_809_357_096_678_6,
+        0.011_400_087_282_177_594,
+        0.336_637_464_056_264,
+        2.128_203_027_215_319,
+        3.251_745_516_903_592,
+        1.0,
+    ],
+};
 
-const NUMERATOR_III: [f64; 6] = [
-    -1.541_431_949_401_359_8E-1,
-    -2.869_906_133_588_252_8,
-    -1.107_053_468_930_936_7E1,
-    -5.163_392_911_552_553,
-    9.948_372_431_703_657,
-    3.125_223_578_008_758_3,
-];
+const TAIL_V: RationalFunction<6, 6> = RationalFunction {
+    numerator: [
+        -0.001_056_635_772_720_258_4,
+        -0.065_127_593_753_781_67,
+        -0.863_851_812_192_137_6,
+        -2.589_445_156_846_573,
+        -0.042_799_650_734_502_09,
+        2.322_684_904_787_23,
+    ],
+    denominator: [
+        0.000_000_000_023_135_343_206_304_888,
+        0.000_747_144_799_216_722_6,
+        0.046_054_974_512_474_44,
+        0.613_208_413_291_975,
+        1.936_131_611_925_441_3,
+        1.0,
+    ],
+};
 
-const DENOMINATOR_III: [f64; 6] = [
-    1.356_598_356_444_129_7E-7,
-    1.089_797_223_413_183E-1,
-    2.030_707_606_430_904,
-    8.108_634_112_236_153,
-    7.076_769_154_309_171,
-    1.0,
-];
-
-const NUMERATOR_IV: [f64; 6] = [
-    -0.016_123_033_183_901_45,
-    -0.475_951_695_467_832_17,
-    -2.964_425_135_315_060_4,
-    -3.688_196_041_019_692,
-    2.250_881_388_987_032,
-    2.616_126_495_089_728_3,
-];
-
-const DENOMINATOR_IV: [f64; 6] = [
-    0.000_000_003_084_809_357_096_678_6,
-    0.011_400_087_282_177_594,
-    0.336_637_464_056_264,
-    2.128_203_027_215_319,
-    3.251_745_516_903_592,
-    1.0,
-];
-
-const NUMERATOR_V: [f64; 6] = [
-    -0.001_056_635_772_720_258_4,
-    -0.065_127_593_753_781_67,
-    -0.863_851_812_192_137_6,
-    -2.589_445_156_846_573,
-    -0.042_799_650_734_502_09,
-    2.322_684_904_787_23,
-];
-
-const DENOMINATOR_V: [f64; 6] = [
-    0.000_000_000_023_135_343_206_304_888,
-    0.000_747_144_799_216_722_6,
-    0.046_054_974_512_474_44,
-    0.613_208_413_291_975,
-    1.936_131_611_925_441_3,
-    1.0,
-];
-
+#[tactic(auto, unfolding(crate::specs::NormalDistribution::inverse_norm_cdf_for_low_probabilities))]
 pub fn inverse_norm_cdf_for_low_probabilities(p: f64) -> f64
     ensures { result ≡ inverse_norm_cdf_for_low_probabilities p }
 {
     let r = sqrt(-ln(p));
     if r < 2.05 {
-        rational(r, &NUMERATOR_I, &DENOMINATOR_I)
+        TAIL_I.at(r)
     } else if r < 3.41 {
-        rational(r, &NUMERATOR_II, &DENOMINATOR_II)
+        TAIL_II.at(r)
     } else if r < 6.7 {
-        rational(r, &NUMERATOR_III, &DENOMINATOR_III)
+        TAIL_III.at(r)
     } else if r < 12.9 {
-        rational(r, &NUMERATOR_IV, &DENOMINATOR_IV)
+        TAIL_IV.at(r)
     } else {
-        rational(r, &NUMERATOR_V, &DENOMINATOR_V)
+        TAIL_V.at(r)
     }
 }
 
+#[tactic(auto, unfolding(crate::specs::NormalDistribution::inverse_norm_cdf))]
 pub fn inverse_norm_cdf(p: f64) -> f64
     ensures { result ≡ inverse_norm_cdf p }
 {

@@ -11,22 +11,21 @@ pub fn evaluate(start: f64, coefficients: &[f64], z: f64) -> f64
     ensures { result ≡ evaluate start coefficients.now z }
 {
     let mut value = start;
-    let mut i: usize = 0;
-    while i < coefficients.len() {
-        value = mul_add2_sel(value, z, coefficients[i]);
-        i += 1;
+    for c in coefficients {
+        value = mul_add2_sel(value, z, *c);
     }
     value
 }
 
 // The polynomial whose highest coefficient is the first; with none, it is 0.
+#[tactic(auto, unfolding(crate::specs::Polynomial::nested))]
 pub fn nested(z: f64, coefficients: &[f64]) -> f64
     ensures { result ≡ nested z coefficients.now }
 {
-    if coefficients.len() == 0 {
-        return 0.0;
+    match coefficients {
+        [] => 0.0,
+        [first, rest @ ..] => evaluate(*first, rest, z),
     }
-    evaluate(coefficients[0], &coefficients[1..], z)
 }
 
 // The test keeps the compiler from pairing the operations of the two polynomials, which would wait for each other: a NaN
@@ -35,8 +34,23 @@ pub fn rational(z: f64, numerator: &[f64], denominator: &[f64]) -> f64
     ensures { result ≡ nested z numerator.now ⊘ nested z denominator.now }
 {
     let above = nested(z, numerator);
-    if above != above {
+    if above.is_nan() {
         return above;
     }
     above / nested(z, denominator)
+}
+
+// A quotient of polynomials, each from its highest coefficient down.
+#[derive(Clone, Copy)]
+pub struct RationalFunction<const N: usize, const M: usize> {
+    pub numerator: [f64; N],
+    pub denominator: [f64; M],
+}
+
+impl<const N: usize, const M: usize> RationalFunction<N, M> {
+    pub fn at(&self, z: f64) -> f64
+        ensures { result ≡ nested z self.now.numerator ⊘ nested z self.now.denominator }
+    {
+        rational(z, &self.numerator, &self.denominator)
+    }
 }

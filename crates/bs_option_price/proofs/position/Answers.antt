@@ -1,23 +1,28 @@
--- `position` meets its contract. Invariant: the first threshold above the value is not among the i passed. Measure: how many are left. Assumes nothing.
-use native.Mathlib.Omega.{arith}
-use native.Mathlib.Nat.{zero-add}
-use borrow.Author.Rules.{rules}
-use Rattle.bs_option_price.specs.BsOptionPrice.{position, thresholds}
-use Rattle.bs_option_price.proofs.Thresholds.{found, one_more, none}
+-- `position` meets its contract: the definition is std's place of the first entry that passes, or the length. Assumes nothing.
+use Rattle.std.proofs.Common.{◌≡◌, refl, ap, ℕ, ◌≤◌, not, cond, ltb, Some, None, unwrap_or, List, Float, arith, rules, tests}
+use Rattle.std.specs.Float.Ieee.{lt}
+use Rattle.std.specs.List.{position_or_len}
+use Rattle.std.proofs.lemmas.Bool.Decides.{nat_tests}
+use Rattle.std.proofs.lemmas.Iterator.{YieldsList-from_slice}
+use Rattle.std.proofs.lemmas.Iterator.Search.{position_from_yields_List}
+use Rattle.std.proofs.lemmas.List.Recursion.{is_position_or_len}
+use Rattle.std.proofs.lemmas.List.Sums.{prefix_len-le-length}
+use Rattle.bs_option_price.specs.BsOptionPrice.{first_above, position, thresholds}
 use Rattle.bs_option_price.proofs.position.Goals as goal
 
-pub loop-i-init : goal.loop-i-init
-unfolding position thresholds
-loop-i-init c = (search rules, zero-add _)
+-- the place, or how many there are
+place_or : (p n : ℕ) → p ≤ n → unwrap_or (cond (ltb p n) (Some p) None) n ≡ p
+place_or p n h = grind (arith, nat_tests)
 
-pub returns-then-value-thresholds : goal.returns-then-value-thresholds
-unfolding thresholds
-returns-then-value-thresholds c = found _ thresholds _ _ c.loop-i.invariant.1 c.loop-i-test.true c.if-value-thresholds.true
-
-pub loop-i-preserved : goal.loop-i-preserved
-unfolding thresholds
-loop-i-preserved c = (search rules, one_more _ thresholds _ _ c.loop-i.invariant.1 c.loop-i-test.true c.if-value-thresholds.false)
+by_place : (value : Float) (l : List Float) → first_above value l ≡ position_or_len (lt value) l
+unfolding first_above
+by_place value = is_position_or_len (first_above value) (lt value) refl (λ x xs. ap (cond (lt value x) 0) (omega arith))
 
 pub returns : goal.returns
-unfolding thresholds
-returns c = none _ thresholds _ _ c.loop-i.invariant.1 (omega arith)
+unfolding position thresholds
+returns c =
+    let place = position_or_len (lt c.args.value) thresholds in
+    let by_call =
+    position_from_yields_List (lt c.args.value) _ _ c.position.result c.position.ensures.ran (YieldsList-from_slice thresholds cc)
+    (λ x b q k. search (rules, tests)) in
+    rw (c.unwrap_or.ensures, by_call, by_place) (place_or place 12 (prefix_len-le-length (λ x. not (lt c.args.value x)) thresholds))

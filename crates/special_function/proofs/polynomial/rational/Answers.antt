@@ -1,17 +1,15 @@
--- `polynomial::rational` meets its contract: what each call ensures, put in; a NaN above is the quotient. Assumes nothing.
-use mathlib.Core.Path.{◌≡◌, sym, ap, ◌∙◌}
-use mathlib.Core.Bool.{true}
-use lib.Ieee.{Float, div, ne}
+-- `polynomial::rational` meets its contract: a NaN above is the quotient. Assumes nothing.
+use Rattle.std.proofs.Common.{◌≡◌, refl, true, Float}
+use Rattle.std.specs.Float.{nan, inf, fin}
+use Rattle.std.specs.Float.Ieee.{is_nan, div}
 use Rattle.arithmetic.specs.Operations.{◌⊘◌}
-use Rattle.arithmetic.specs.Laws.Signs.{is_nan_lem}
 use Rattle.special_function.proofs.polynomial.rational.Goals as goal
 
-nan_over : (x n d : Float) → ne x x ≡ true → x ≡ n → x ≡ n ⊘ d
-unfolding div
-nan_over x n d h e = is_nan_lem x h ∙ sym (ap (λ (z : Float). z ⊘ d) (sym e ∙ is_nan_lem x h))
+nan_over : (x d : Float) → is_nan x ≡ true → x ≡ x ⊘ d
+unfolding is_nan div
+nan_over nan d h = refl
+nan_over (inf s) d h = absurd (cc)
+nan_over (fin s m e) d h = absurd (cc)
 
-pub returns-then-above : goal.returns-then-above
-returns-then-above c = nan_over _ _ _ c.if-above.true c.nested-above.ensures
-
-pub returns : goal.returns
-returns c = rw (c.nested.ensures, c.nested-above.ensures)
+pub returns-then-is_nan : goal.returns-then-is_nan
+returns-then-is_nan c = rw (← c.nested-above.ensures) (nan_over _ _ (cc))

@@ -215,16 +215,15 @@ impl Terms {
         ensures { result ≡ Ieee.sum binary64 s (val self.a * 2 ^ above 2148 self.e.value)
             t (val self.b * 2 ^ above 2148 self.e.value) (2 ^ 2148) }
     {
-        let a = self.a;
-        let b = self.b;
-        let e = self.e;
-        if s == t {
-            Term { v: a + b, e }.round(s)
+        let (a, b) = (self.a, self.b);
+        let (negative, v) = if s == t {
+            (s, a + b)
         } else if a < b {
-            Term { v: b - a, e }.round(t)
+            (t, b - a)
         } else {
-            Term { v: a - b, e }.round(s && b < a)
-        }
+            (s && b < a, a - b)
+        };
+        Term { v, e: self.e }.round(negative)
     }
 }
 

@@ -1,27 +1,27 @@
 -- What `sqrt` and `of_normal` give: the root of what a bit pattern stands for, on each path of the code, and the pattern that the code puts
 -- together. Assumes nothing.
-use Rattle.std.proofs.Common.{◌≡◌, ℕ, zero, suc, ◌+◌, ◌-◌, ◌*◌, ◌/◌, ◌%◌, ◌^◌, ◌<◌, ◌≤◌, Bool, true, false, cond, not, T, eqb, ◌⊎◌, pos, sym, refl, ap, ◌∙◌, subst, inl, inr, le_of_eq, lt_of_lt_of_le, mul_assoc, mul_comm, div-lt_iff_lt-mul, eq-or-lt_of_le, mul-pos, mul-one, div-one, arith, lit<, pow_pos}
-use lib.Ieee.{Float, nan, inf, binary64, odd, of_fields, of_bits, to_bits, of_int, round, div, size, fits, is_nan, ne}
+use Rattle.std.proofs.Common.{◌≡◌, ℕ, zero, suc, ◌+◌, ◌-◌, ◌*◌, ◌/◌, ◌%◌, ◌^◌, ◌<◌, ◌≤◌, Bool, true, false, cond, not, T, eqb, ◌⊎◌, pos, sym, refl, ap, ◌∙◌, subst, inl, inr, le_of_eq, lt_of_lt_of_le, mul_assoc, mul_comm, div-lt_iff_lt-mul, eq-or-lt_of_le, mul-pos, mul-one, div-one, arith, lit<, pow_pos, lt-ltb, le-ltb}
+use lib.Ieee.{Float, nan, inf, binary64, odd, of_fields, of_bits, to_bits, of_int, round, size, fits, is_nan}
 use lib.Ieee.Bits.{of_bits-fits, of_bits-to_bits}
 use lib.Ieee.Digits.{size-lt, size-le}
 use lib.Ieee.Positive.{num, den, den_pos, positive_of_value}
 use lib.Ieee.Fits.{round-fits}
 use lib.Ieee.Exact.{HasValue, odd_sign}
-use Rattle.arithmetic.specs.Laws.Numbers.{pow_split, four, size_mul, false_not}
+use Rattle.arithmetic.specs.Laws.Numbers.{lt_or_le, pow_split, four, size_mul, false_not}
 use Rattle.arithmetic.specs.Laws.Times.{Times, has_finite, rescale, of_cross, positive_sign}
 use Rattle.arithmetic.specs.Laws.Compare.{finite_no_nan}
-use Rattle.arithmetic.specs.Laws.Signs.{is_nan_lem}
+use Rattle.arithmetic.proofs.Methods.{nan_of}
 use Rattle.arithmetic.specs.Laws.SqrtScaling.{units_times}
 use Rattle.arithmetic.specs.Laws.SqrtNearest.{sqrt_fits}
 use Rattle.arithmetic.specs.Laws.SqrtBounds.{sqrt_positive}
 use Rattle.arithmetic.specs.Laws.PowersOfTwo.{times_fraction}
 use Rattle.arithmetic.specs.Laws.Representable.{round_self}
-use Rattle.arithmetic.specs.Operations.{◌⊗◌, ◌⊘◌, plus_zero}
+use Rattle.arithmetic.specs.Operations.{◌⊗◌}
 use Rattle.arithmetic.specs.Sqrt.{sqrt_units, sqrt}
 use Rattle.arithmetic.specs.Laws.Patterns.{signed_is, at_zero, above_zero, subnormal, normal, built, no_nan, bits_at, bits_of}
 use Rattle.arithmetic.specs.Laws.WholeRoots.{units_at}
 use Rattle.arithmetic.specs.Laws.SqrtValues.{sqrt_of, sqrt_below}
-use Rattle.arithmetic.specs.Internal.Sqrt.{Radicand, Closest}
+use Rattle.arithmetic.specs.Internal.Sqrt.{Radicand, leading, Closest}
 use Rattle.arithmetic.proofs.Integers.{integer_value}
 
 -- ---- NaN, the infinity, and the two zeros
@@ -29,8 +29,8 @@ at_nan : sqrt nan ≡ nan
 unfolding sqrt
 at_nan = refl
 
-pub of_nan : (x : Float) → ne x x ≡ true → x ≡ sqrt x
-of_nan x h = let e = is_nan_lem x h in e ∙ sym (ap sqrt e ∙ at_nan)
+pub of_nan : (x : Float) → true ≡ is_nan x → x ≡ sqrt x
+of_nan x h = let e = nan_of x h in e ∙ sym (ap sqrt e ∙ at_nan)
 
 abbrev Itself : ℕ → Type 0
 Itself b = sqrt (of_bits binary64 b) ≡ of_bits binary64 b
@@ -79,15 +79,15 @@ fields_below (suc x) t h = ap sqrt (above_zero true x t) ∙ go (eqb (suc x) 204
     go true false = at_nan
     go false b = odd_below (4503599627370496 + t) x (omega arith)
 
-pub zero_by_zero : plus_zero ⊘ plus_zero ≡ nan
-unfolding div of_bits
-zero_by_zero = refl
+nan_pattern : of_bits binary64 0x7ff8_0000_0000_0000 ≡ nan
+unfolding of_bits
+nan_pattern = refl
 
-pub of_below : (b : ℕ) → 9223372036854775808 < b → b < 18446744073709551616 → plus_zero ⊘ plus_zero ≡ sqrt (of_bits binary64 b)
+pub of_below : (b : ℕ) → 9223372036854775808 < b → b < 18446744073709551616 → of_bits binary64 0x7ff8_0000_0000_0000 ≡ sqrt (of_bits binary64 b)
 of_below b lo hi =
     let r = b - 9223372036854775808 in
     let e : b ≡ 9223372036854775808 + r = omega arith in
-    zero_by_zero
+    nan_pattern
     ∙ sym (ap (λ (x : ℕ). sqrt (of_bits binary64 x)) e
     ∙ ap sqrt (signed_is true r (omega arith))
     ∙ fields_below (r / 4503599627370496) (r % 4503599627370496) (omega arith))
@@ -104,6 +104,23 @@ pattern_at b k w i r low high (lo, hi) K e g h =
     ∙ sym (units_at (w * 2 ^ 52) k (omega arith) (omega arith))
     ∙ ap sqrt_units (ap (λ (x : ℕ). x * 4 ^ k) e ∙ mul_assoc m (2 ^ i) (4 ^ k) ∙ ap (λ (x : ℕ). m * x) exponent)
     ∙ sym (of_normal b low high)
+
+-- so with the leading digits that the code takes: one is as long as a significand, two where they are doubled
+pub leading_at : (b q : ℕ) → 4503599627370496 ≤ b → b < 9218868437227405312 → Closest (leading b) q
+    → of_bits binary64 ((1021 + b / 4503599627370496) / 2 * 4503599627370496 + q) ≡ sqrt (of_bits binary64 b)
+leading_at b q lo hi = go (lt_or_le (b % 9007199254740992) 4503599627370496)
+  where
+    k : ℕ
+    k = (1021 + b / 4503599627370496) / 2
+
+    go : (b % 9007199254740992 < 4503599627370496) ⊎ (4503599627370496 ≤ b % 9007199254740992) → Closest (leading b) q
+        → of_bits binary64 (k * 4503599627370496 + q) ≡ sqrt (of_bits binary64 b)
+    go (inl l) h =
+        pattern_at b k _ 53 q lo hi (omega arith, omega arith) (omega arith) (omega arith) (omega arith)
+        (subst (λ (c : Bool). Closest (cond c (2 * (b % 9007199254740992) + 9007199254740992) (b % 9007199254740992)) q) (lt-ltb _ _ l) h)
+    go (inr g) h =
+        pattern_at b k _ 52 q lo hi (omega arith, omega arith) (omega arith) (omega arith) (omega arith)
+        (subst (λ (c : Bool). Closest (cond c (2 * (b % 9007199254740992) + 9007199254740992) (b % 9007199254740992)) q) (le-ltb _ _ g) h)
 
 -- ---- what `sqrt` does with a subnormal value: b units are b * 2 ^ -1074, so the root is √b times 2 ^ -537
 unit_root : HasValue (of_bits binary64 0x1e60_0000_0000_0000) false 1 (2 ^ 537)

@@ -35,7 +35,5 @@ pub(crate) const TWO_TO_52: u64 = 0x10_0000_0000_0000;
 // 2^53: two steps. A significand is below it.
 pub(crate) const TWO_TO_53: u64 = 0x20_0000_0000_0000;
 
-// Bit patterns. One that is larger than INFINITY with its sign taken off is a NaN's.
+// A bit pattern. One that is larger with its sign taken off is a NaN's.
 pub const INFINITY: u64 = 0x7ff0_0000_0000_0000;
-
-pub(crate) const NEGATIVE_INFINITY: u64 = 0xfff0_0000_0000_0000;

@@ -3,7 +3,7 @@
 ghost use Rattle.std.specs.Prelude.{◌≡◌, ◌^◌, ◌<◌, ◌≤◌, T, from_bits};
 ghost use Rattle.std.specs.Float.{binary64};
 ghost use Rattle.arithmetic.specs.Sqrt.{sqrt};
-ghost use Rattle.arithmetic.specs.Internal.Sqrt.{Radicand, Closest};
+ghost use Rattle.arithmetic.specs.Internal.Sqrt.{Radicand, leading, Closest};
 
 use super::format::{INFINITY, SIGN, TWO_TO_52, TWO_TO_53};
 use super::pair::HALF_WORD;
@@ -37,14 +37,27 @@ const ROOT_BIAS: u64 = 1021;
 // The pattern of 2^-537, the root of the smallest value above 0.
 const LOWEST_ROOT: u64 = 0x1e60_0000_0000_0000;
 
-// The leading digits w of a number under the root: the whole roots looked for are those of w * 2^52.
+// The leading digits w of a number under a root, w * 2^52 of its units: 53 or 54, and not 54 ones.
 #[derive(Clone, Copy)]
-pub struct LeadingDigits {
+struct Leading {
     w: u64,
     ghost in_range: { Radicand w },
 }
 
-impl LeadingDigits {
+impl Leading {
+    // Of the normal x above 0 with pattern b: doubled where the exponent is odd.
+    fn of_pattern(b: u64) -> Leading
+        ensures { result.w ≡ leading b }
+    {
+        let digits = b % TWO_TO_53;
+        let w = if digits < TWO_TO_52 {
+            2 * digits + TWO_TO_53
+        } else {
+            digits
+        };
+        Leading { w }
+    }
+
     // Whether q is the whole number nearest to √(w * 2^52): true only if it is, and nearly always if it is. With d the lower
     // 26 binary digits of q, s those above, and v = (w - s²) * 2^26 + s - 2sd, w * 2^52 - q² + q = v * 2^26 + d - d².
     fn is_closest(self, q: u64) -> bool
@@ -144,17 +157,11 @@ fn of_normal(b: u64) -> f64
 {
     let q = estimate(b);
     let k = (ROOT_BIAS + b / TWO_TO_52) / 2;
-    let digits = b % TWO_TO_53;
-    let w = if digits < TWO_TO_52 {
-        2 * digits + TWO_TO_53
-    } else {
-        digits
-    };
-    let radicand = LeadingDigits { w };
-    if radicand.is_closest(q) {
+    let digits = Leading::of_pattern(b);
+    if digits.is_closest(q) {
         return f64::from_bits(k * TWO_TO_52 + q);
     }
-    f64::from_bits(k * TWO_TO_52 + radicand.closest(q))
+    f64::from_bits(k * TWO_TO_52 + digits.closest(q))
 }
 
 // The f64 nearest to √x. A zero is its own root, with its sign, and anything else below zero has none. A subnormal x
@@ -163,7 +170,7 @@ fn of_normal(b: u64) -> f64
 pub fn sqrt(x: f64) -> f64
     ensures { result ≡ sqrt x }
 {
-    if x != x {
+    if x.is_nan() {
         return x;
     }
     let b = f64::to_bits(x);
@@ -172,18 +179,20 @@ pub fn sqrt(x: f64) -> f64
         if b <= SIGN {
             return x;
         }
-        return 0.0 / 0.0;
+        return f64::NAN;
     }
-    let mut c = b;
-    if b < TWO_TO_52 {
+    let c = if b < TWO_TO_52 {
         if b == 0 {
             return x;
         }
-        c = f64::to_bits(b as f64);
-    }
+        f64::to_bits(b as f64)
+    } else {
+        b
+    };
     let r = of_normal(c);
     if b < TWO_TO_52 {
-        return r * f64::from_bits(LOWEST_ROOT);
+        r * f64::from_bits(LOWEST_ROOT)
+    } else {
+        r
     }
-    r
 }

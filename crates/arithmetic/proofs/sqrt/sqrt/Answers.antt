@@ -4,10 +4,7 @@ use lib.Ieee.{Float, binary64, fits, is_nan, to_bits, of_bits}
 use lib.Ieee.Bits.{of_bits-to_bits, to_bits-lt}
 use denote.Floats.{passes}
 use Rattle.arithmetic.specs.Sqrt.{sqrt}
-use Rattle.arithmetic.specs.Laws.Compare.{is_no_nan}
 use Rattle.arithmetic.specs.Laws.Patterns.{bits_no_nan}
-use Rattle.arithmetic.specs.Laws.Signs.{has_bits}
-use Rattle.arithmetic.proofs.Integers.{integer_fits}
 use Rattle.arithmetic.proofs.SqrtPaths.{of_nan, of_zero, of_itself, of_below, whole_no_nan, whole_normal, of_whole}
 use Rattle.arithmetic.proofs.sqrt.sqrt.Goals as goal
 use Rattle.arithmetic.proofs.sqrt.sqrt.Goals.{then-b-lt-TWO_TO_52+else-b-eq0, else-b-lt-TWO_TO_52}
@@ -15,17 +12,14 @@ use Rattle.arithmetic.proofs.sqrt.sqrt.Goals.{then-b-lt-TWO_TO_52+else-b-eq0, el
 abbrev root-of : ℕ → Float
 root-of b = sqrt (of_bits binary64 b)
 
-pub returns-then-x : goal.returns-then-x
-returns-then-x c = of_nan c.args.x c.if-x.true
-
-pub float_to_bits-b : goal.float_to_bits-b
-float_to_bits-b c = has_bits c.args.x c.if-x.false
+pub returns-then-is_nan : goal.returns-then-is_nan
+returns-then-is_nan c = of_nan c.args.x c.if-is_nan.ensures.value
 
 pub returns-then-b-le-SIGN : goal.returns-then-b-le-SIGN
 returns-then-b-le-SIGN c =
     let held : T (fits binary64 c.args.x) = passes _ c.well_formed.0.1 in
     let back : of_bits binary64 (to_bits binary64 c.args.x) ≡ c.args.x = of_bits-to_bits binary64 c.args.x held in
-    let is_number = ap is_nan back ∙ is_no_nan c.args.x c.if-x.false in
+    let is_number = ap is_nan back ∙ sym c.if-is_nan.ensures.value in
     sym (subst (λ (y : Float). sqrt y ≡ y) back
     (of_itself (to_bits binary64 c.args.x) c.if-b-ge-INFINITY.true (omega (arith, c.if-b-le-SIGN.true)) is_number))
 
@@ -41,14 +35,11 @@ returns-then-b-eq0 c =
     let back : of_bits binary64 (to_bits binary64 c.args.x) ≡ c.args.x = of_bits-to_bits binary64 c.args.x held in
     sym (subst (λ (y : Float). sqrt y ≡ y) back (of_zero (to_bits binary64 c.args.x) c.if-b-eq0.true))
 
-pub int_to_float-c : goal.int_to_float-c
-int_to_float-c c = integer_fits _ (omega arith)
-
 pub float_to_bits-c : goal.float_to_bits-c
 float_to_bits-c c = whole_no_nan _ (omega arith) (omega arith)
 
 pub of_normal-r-requires : goal.of_normal-r-requires
-of_normal-r-requires c = elim c.if-b-lt-TWO_TO_52.branch [ then-b-lt-TWO_TO_52+else-b-eq0 h ↦ rw h.c-is (whole_normal _ (omega arith) h.if-b-lt-TWO_TO_52.true) | else-b-lt-TWO_TO_52 h ↦ omega arith ]
+of_normal-r-requires c = elim c.if-b-lt-TWO_TO_52.branch [ then-b-lt-TWO_TO_52+else-b-eq0 h ↦ rw h.c-is (whole_normal _ (omega arith) h.if-b-lt-TWO_TO_52.true) | else-b-lt-TWO_TO_52 h ↦ rw h.c-is (omega arith, omega arith) ]
 
 pub float_from_bits-result : goal.float_from_bits-result
 float_from_bits-result c = bits_no_nan _ (omega arith)
@@ -62,8 +53,8 @@ returns-then-b-lt-TWO_TO_52-2 c =
       | else-b-lt-TWO_TO_52 h ↦ absurd (omega arith)
     ]
 
-pub returns : goal.returns
-returns c =
+pub returns-else-b-lt-TWO_TO_52-2 : goal.returns-else-b-lt-TWO_TO_52-2
+returns-else-b-lt-TWO_TO_52-2 c =
     let held : T (fits binary64 c.args.x) = passes _ c.well_formed.0.1 in
     let back : of_bits binary64 (to_bits binary64 c.args.x) ≡ c.args.x = of_bits-to_bits binary64 c.args.x held in
     elim c.if-b-lt-TWO_TO_52.branch [

@@ -1,7 +1,7 @@
--- `LeadingDigits::is_closest` meets its contract: what passes its tests is the nearest root, by `tested`. Assumes nothing.
+-- `Leading::is_closest` meets its contract: what passes its tests is the nearest root, by `tested`. Assumes nothing.
 use Rattle.std.proofs.Common.{arith, leb→le}
 use Rattle.arithmetic.proofs.SqrtDigits.{upper_square, cross_product, lower_square, tested, closest_of}
-use Rattle.arithmetic.proofs.sqrt.LeadingDigits.is_closest.Goals as goal
+use Rattle.arithmetic.proofs.sqrt.Leading.is_closest.Goals as goal
 
 pub overflow_mul-s : goal.overflow_mul-s
 overflow_mul-s c = omega (arith, upper_square c.args.q c.if-q-ge-TWO_TO_53.false)

@@ -1,9 +1,9 @@
--- `LeadingDigits::by_digits` meets its contract, by the laws of `SqrtDigits`. The invariant: r is the whole root of the upper digits. The measure is the
+-- `Leading::by_digits` meets its contract, by the laws of `SqrtDigits`. The invariant: r is the whole root of the upper digits. The measure is the
 -- iterations that are left. Assumes nothing.
 use Rattle.std.proofs.Common.{arith}
 use Rattle.arithmetic.proofs.SqrtDigits.{small, upper_none, next_0, next_1, nearest_above, nearest_itself, closest_of}
-use Rattle.arithmetic.proofs.sqrt.LeadingDigits.by_digits.Goals as goal
-use Rattle.arithmetic.proofs.sqrt.LeadingDigits.by_digits.Goals.{then-r-e, else-r-e}
+use Rattle.arithmetic.proofs.sqrt.Leading.by_digits.Goals as goal
+use Rattle.arithmetic.proofs.sqrt.Leading.by_digits.Goals.{then-r-e, else-r-e}
 
 pub loop-init : goal.loop-init
 loop-init c = (upper_none _ (omega arith), omega arith)

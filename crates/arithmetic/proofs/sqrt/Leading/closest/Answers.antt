@@ -1,6 +1,6 @@
--- `LeadingDigits::closest` meets its contract: what passes the test is nearest. Assumes nothing.
+-- `Leading::closest` meets its contract: what passes the test is nearest. Assumes nothing.
 use denote.Floats.{passes}
-use Rattle.arithmetic.proofs.sqrt.LeadingDigits.closest.Goals as goal
+use Rattle.arithmetic.proofs.sqrt.Leading.closest.Goals as goal
 
 pub returns-then-is_closest : goal.returns-then-is_closest
 returns-then-is_closest c = c.is_closest.ensures (passes _ c.if-is_closest.true)

@@ -150,7 +150,7 @@ impl Term {
             }
             return Terms {
                 a: self.v.jam(d - WORD),
-                b: b << WORD,
+                b: Pair { hi: w.m, lo: 0 },
                 e: w.j.lowered(WORD),
             };
         }

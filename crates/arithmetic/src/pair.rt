@@ -67,16 +67,16 @@ impl Sub for Pair {
     }
 }
 
-// A number times 2^d that fits, for d below 128.
+// A number times 2^d that fits, for d below 64, as % tells the compiler.
 impl Shl<u64> for Pair {
     type Output = Pair;
 
-    ghost can_shl = { λ a d. (d < 128) × (val a * 2 ^ d < 2 ^ 128) };
+    ghost can_shl = { λ a d. (d < 64) × (val a * 2 ^ d < 2 ^ 128) };
 
     ghost shl_gives = { λ a d r. val r ≡ val a * 2 ^ d };
 
     fn shl(self, d: u64) -> Pair {
-        Pair::from(u128::from(self) << d)
+        Pair::from(u128::from(self) << (d % WORD))
     }
 }
 

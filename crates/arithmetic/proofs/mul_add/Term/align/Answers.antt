@@ -1,5 +1,5 @@
 -- `Term::align` meets its contract: a law of `MulAddAlign` for each of the four ways to one scale. Assumes nothing.
-use Rattle.std.proofs.Common.{ℕ, ◌-◌, ◌*◌, ◌^◌, ap, ◌∙◌, arith}
+use Rattle.std.proofs.Common.{ℕ, ◌-◌, ◌*◌, ◌^◌, ap, ◌∙◌, add-zero, arith}
 use Rattle.arithmetic.specs.Internal.Pair.{jammed}
 use Rattle.arithmetic.proofs.MulAddAlign.{product_fits, near_above, far_above, near_below, far_below}
 use Rattle.arithmetic.proofs.mul_add.Term.align.Goals as goal
@@ -13,8 +13,7 @@ returns-then-d-lt-WORD c =
 pub returns-then-le : goal.returns-then-le
 returns-then-le c =
     let a = c.args in
-    let b = c.shl-then-le.ensures ∙ ap (λ (n : ℕ). n * 2 ^ 64) c.from-b.ensures in
-    (far_above a.self a.w c.requires.small c.requires.lead _ c.distance-d.ensures.0 c.if-d-lt-WORD.false _ _ c.jam.ensures b _ c.lowered.ensures).same
+    (far_above a.self a.w c.requires.small c.requires.lead _ c.distance-d.ensures.0 c.if-d-lt-WORD.false _ _ c.jam.ensures (add-zero (a.w.m * 2 ^ 64)) _ c.lowered.ensures).same
 
 pub shl-requires-then-d-le-HEADROOM : goal.shl-requires-then-d-le-HEADROOM
 shl-requires-then-d-le-HEADROOM c =

@@ -14,7 +14,7 @@ use crate::initial_guess::{
     inverse_gaussian_quantile_initial_guess, is_finite_positive, starting_point,
 };
 use crate::newton::{inverse_gaussian_quantile_actuar, nrstep};
-use crate::search::{Curve, search_from};
+use crate::search::{Curve, Search};
 use arithmetic::basic::{abs, is_finite, max};
 use arithmetic::constants::MAX;
 use std::ops::ControlFlow;
@@ -63,7 +63,7 @@ pub(crate) fn inverse_gaussian_quantile_bracketed(
     ensures spent { OnErr result (allowed.new.left ≡ 0) }
 {
     let x = starting_point(inverse_gaussian_quantile_initial_guess(probability, mu), mu);
-    search_from::<Evaluation>(x, mu, probability, allowed)
+    Search { mu, probability }.root_from::<Evaluation>(x, allowed)
 }
 
 // Twice x, or the largest finite value where that is not finite.
@@ -82,7 +82,7 @@ impl Curve for Evaluation {
     ghost use Rattle.inverse_gaussian.specs.Laws.DoublingEnds.{distribution_upward_ends};
     ghost use Rattle.inverse_gaussian.specs.Laws.HalvingEnds.{distribution_downward_ends};
 
-    ghost search = { distribution };
+    ghost rules = { distribution };
 
     ghost value_of = { λ e. e.value };
 

@@ -12,7 +12,7 @@ use crate::initial_guess::{
     inverse_gaussian_quantile_initial_guess_from_z, is_finite_positive, starting_point,
 };
 use crate::quantile::is_solvable;
-use crate::search::{Curve, search_from};
+use crate::search::{Curve, Search};
 use arithmetic::basic::{abs, min};
 use arithmetic::constants::MAX;
 use arithmetic::ln::ln;
@@ -33,7 +33,7 @@ pub fn inverse_gaussian_quantile_from_survival(
     }
     let z = -inverse_norm_cdf(probability);
     let x = starting_point(inverse_gaussian_quantile_initial_guess_from_z(z, mu), mu);
-    search_from::<SurvivalEvaluation>(x, mu, probability, allowed)
+    Search { mu, probability }.root_from::<SurvivalEvaluation>(x, allowed)
 }
 
 // The survival decreases, so that the root is above a value that is above the probability.
@@ -43,7 +43,7 @@ impl Curve for SurvivalEvaluation {
     ghost use Rattle.inverse_gaussian.specs.Laws.DoublingEnds.{survival_upward_ends};
     ghost use Rattle.inverse_gaussian.specs.Laws.HalvingEnds.{survival_downward_ends};
 
-    ghost search = { survival };
+    ghost rules = { survival };
 
     ghost value_of = { λ e. e.value };
 

@@ -128,7 +128,7 @@ count_le l zero (stop r) = zero-le
 count_le l (suc k) (go s) = suc-le-suc (count_le l k (step l s))
 count_le l (suc k) (stop r) = zero-le
 
-iterate_stop : {S R : Type 0} (l : Loop S R) (k : ℕ) (r : R) → iterate l k (stop r) ≡ at_once r
+pub iterate_stop : {S R : Type 0} (l : Loop S R) (k : ℕ) (r : R) → iterate l k (stop r) ≡ at_once r
 unfolding iterate
 iterate_stop l zero r = refl
 iterate_stop l (suc k) r = refl

@@ -87,17 +87,19 @@ unsolvable p mu n e = rw e (sym (limited_now n none))
 
 -- t is what the Newton steps gave, and the filter leaves f of it
 module _ (p mu : Float) (n : ℕ) (s : solvable p mu ≡ true) where
+  abbrev or_bracketed : Option Float → Counted (Option Float)
+  or_bracketed f = some_of (or_else f (inverse_gaussian_quantile_bracketed p mu))
+
   pub newton_spent : spent ≡ limited n (inverse_gaussian_quantile_actuar p mu) → spent ≡ limited n (inverse_gaussian_quantile p mu)
   unfolding inverse_gaussian_quantile
-  newton_spent e = rw s (then_spent n (inverse_gaussian_quantile_actuar p mu) (λ t. some_of (or_else (filtered t) (inverse_gaussian_quantile_bracketed p mu))) e)
+  newton_spent e = rw s (then_spent n (inverse_gaussian_quantile_actuar p mu) (λ t. or_bracketed (filtered t)) e)
 
   after_newton : {t f : Option Float} {m : ℕ} {q : Metered (Option Float)}
-      → have t m ≡ limited n (inverse_gaussian_quantile_actuar p mu) → f ≡ filtered t
-      → q ≡ limited m (some_of (or_else f (inverse_gaussian_quantile_bracketed p mu))) → q ≡ limited n (inverse_gaussian_quantile p mu)
+      → have t m ≡ limited n (inverse_gaussian_quantile_actuar p mu) → f ≡ filtered t → q ≡ limited m (or_bracketed f)
+      → q ≡ limited n (inverse_gaussian_quantile p mu)
   unfolding inverse_gaussian_quantile
   after_newton {t} {f} {m} {q} e g h =
-      rw s (then_have n m (inverse_gaussian_quantile_actuar p mu) (λ t. some_of (or_else (filtered t) (inverse_gaussian_quantile_bracketed p mu))) t q e
-      (rw (sym g) h))
+      rw s (then_have n m (inverse_gaussian_quantile_actuar p mu) (λ t. or_bracketed (filtered t)) t q e (rw (sym g) h))
 
   pub newton_root : {t : Option Float} {x : Float} {m : ℕ}
       → have t m ≡ limited n (inverse_gaussian_quantile_actuar p mu) → some x ≡ filtered t → have (some x) m ≡ limited n (inverse_gaussian_quantile p mu)

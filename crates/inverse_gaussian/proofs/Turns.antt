@@ -1,17 +1,17 @@
 -- One turn of a search, for every loop: what follows from the contracts of its evaluation and of what is made of the value. Assumes nothing.
 use mathlib.Core.Path.{◌≡◌, sym, ap, ◌∙◌}
-use Prim.Native.Nat.{ℕ, suc, ◌-◌, ◌<◌}
+use Prim.Native.Nat.{ℕ, zero, suc, ◌-◌, ◌<◌}
 use native.Mathlib.Omega.{arith}
 use lib.Ieee.{Float}
 use Rattle.inverse_gaussian.specs.Counted.{Option, sample, at_once, tick, Metered, have, spent, limited}
 use Rattle.inverse_gaussian.specs.Loops.{Next, go, stop, Loop}
 use Rattle.inverse_gaussian.specs.declared.bracket.Bracket.{Bracket}
 use Rattle.inverse_gaussian.specs.Curves.{inverse_gaussian_pdf}
-use Rattle.inverse_gaussian.specs.Newton.{newton_loop, later}
+use Rattle.inverse_gaussian.specs.Newton.{newton_loop, last, later}
 use Rattle.inverse_gaussian.specs.Internal.Searches.{step_at}
 use Rattle.inverse_gaussian.specs.Internal.Bracketed.{Rules, narrowing_loop}
 use Rattle.inverse_gaussian.specs.Laws.Counted.{Carried, carried_on, carried_stop, value_of}
-use Rattle.inverse_gaussian.specs.Laws.Counted.{Left, left_on, left_none, left_stop, none_of}
+use Rattle.inverse_gaussian.specs.Laws.Counted.{Left, left_on, left_none, left_stop, left_out, none_of}
 
 -- What an evaluation tells a caller who had n allowed: of the curve's value w and the density q at its point
 -- it gives v and d, and m are left.
@@ -49,9 +49,14 @@ module _ (r : Rules) (mu p : Float) where
       → y ≡ r.iteration d p (b, x) v → Left (narrowing_loop r mu p) j a m y
   iterated {x} {b = b} j i f o h = left_on i f o.one_fewer (rw (o.value, o.density) (sym h))
 
--- a Newton step after the first
+-- the Newton steps after the first
 module _ (p lp mu : Float) {k n : ℕ} {a : Metered (Option Float)} where
   pub stepped : {x direction : Float} {t : Option Float} {m : ℕ} (j : ℕ) {y : Next (Float × Float) (Option Float)}
       → Left (newton_loop p lp mu) k a n (go (x, direction)) → k ≡ suc j → have t m ≡ limited n (tick (at_once (step_at x p lp mu)))
       → y ≡ later mu x direction t → Left (newton_loop p lp mu) j a m y
   stepped {x} {direction} j i f e h = let o = value_of e in left_on i f o.1 (ap (later mu x direction) o.0 ∙ sym h)
+
+  -- no step is left
+  pub left_last : (x : Next (Float × Float) (Option Float)) → Left (newton_loop p lp mu) k a n x → k ≡ zero → have (last mu x) n ≡ a
+  left_last (go s) i e = sym (left_out i e)
+  left_last (stop t) i e = sym (left_stop i)

@@ -3,7 +3,7 @@ ghost use Rattle.std.specs.Prelude.{◌≡◌, OnErr};
 ghost use Rattle.inverse_gaussian.specs.Counted.{limited, at_once, tick};
 ghost use Rattle.inverse_gaussian.specs.Loops.{go};
 ghost use Rattle.inverse_gaussian.specs.Internal.Searches.{metered, view_option, view_flow, step_at};
-ghost use Rattle.inverse_gaussian.specs.Newton.{seed, initial_x, numerator, nrstep, converged, after_move, first, later, last, steps};
+ghost use Rattle.inverse_gaussian.specs.Newton.{seed, initial_x, numerator, nrstep, converged, after_move, first, later, steps};
 ghost use Rattle.inverse_gaussian.specs.Newton.{inverse_gaussian_mode_standardized, inverse_gaussian_quantile_actuar};
 
 use crate::curves::{Allowance, Spent, inverse_gaussian_cdf};

@@ -62,8 +62,13 @@ pub(crate) fn inverse_gaussian_quantile_bracketed(
         ≡ limited allowed.old.left (some_of (inverse_gaussian_quantile_bracketed probability mu)) }
     ensures spent { OnErr result (allowed.new.left ≡ 0) }
 {
-    let x = starting_point(inverse_gaussian_quantile_initial_guess(probability, mu), mu);
-    Search { mu, probability }.root_from::<Evaluation>(x, allowed)
+    let start = starting_point(inverse_gaussian_quantile_initial_guess(probability, mu), mu);
+    let search = Search {
+        start,
+        mu,
+        probability,
+    };
+    search.root::<Evaluation>(allowed)
 }
 
 // Twice x, or the largest finite value where that is not finite.

@@ -1,6 +1,6 @@
 // A search for the root of either curve: a bracket of it by doubling or by halving, and the iterations in the bracket.
 ghost use Rattle.std.specs.Prelude.{◌≡◌, true, OnErr};
-ghost use Rattle.inverse_gaussian.specs.Counted.{limited, some_of};
+ghost use Rattle.inverse_gaussian.specs.Counted.{limited};
 ghost use Rattle.inverse_gaussian.specs.Curves.{finite_positive};
 ghost use Rattle.inverse_gaussian.specs.Internal.Searches.{metered, view_option};
 ghost use Rattle.inverse_gaussian.specs.Internal.Bracketed.{upward, downward, bracket_beside, narrowing, root_from};
@@ -75,25 +75,22 @@ pub trait Curve: Copy {
     ghost downward_ends: { DownwardEnds rules };
 }
 
-// A search for the point where a curve of the distribution with mean mu has the probability.
+// A search, from the point where it starts, for that where a curve of the distribution with mean mu has the probability.
 #[derive(Clone, Copy)]
 pub(crate) struct Search {
+    pub(crate) start: f64,
     pub(crate) mu: f64,
     pub(crate) probability: f64,
+    ghost start_is_positive: { finite_positive start ≡ true },
 }
 
 impl Search {
-    // Doubles from `initial` until the root is no longer above the bracket.
-    fn from_below<C: Curve>(
-        self,
-        initial: f64,
-        allowed: &mut Allowance,
-    ) -> Result<Option<Bracket>, Spent>
-        requires { finite_positive initial ≡ true }
-        ensures metered { metered view_option result allowed.new.left ≡ limited allowed.old.left (upward C.rules initial self.mu self.probability) }
+    // Doubles from the start until the root is no longer above the bracket.
+    fn from_below<C: Curve>(self, allowed: &mut Allowance) -> Result<Option<Bracket>, Spent>
+        ensures metered { metered view_option result allowed.new.left ≡ limited allowed.old.left (upward C.rules self.start self.mu self.probability) }
         ensures spent { OnErr result (allowed.new.left ≡ 0) }
     {
-        let mut bracket = C::bracket_from(initial);
+        let mut bracket = C::bracket_from(self.start);
         loop {
             let value = C::evaluate(bracket.upper, self.mu, allowed)?.value();
             match C::widened(bracket, value, self.probability) {
@@ -103,13 +100,12 @@ impl Search {
         }
     }
 
-    // Halves from `initial` until the root is no longer below the bracket.
-    fn from_above<C: Curve>(self, initial: f64, allowed: &mut Allowance) -> Result<Bracket, Spent>
-        requires { finite_positive initial ≡ true }
-        ensures metered { metered (λ b. b) result allowed.new.left ≡ limited allowed.old.left (downward C.rules initial self.mu self.probability) }
+    // Halves from the start until the root is no longer below the bracket.
+    fn from_above<C: Curve>(self, allowed: &mut Allowance) -> Result<Bracket, Spent>
+        ensures metered { metered (λ b. b) result allowed.new.left ≡ limited allowed.old.left (downward C.rules self.start self.mu self.probability) }
         ensures spent { OnErr result (allowed.new.left ≡ 0) }
     {
-        let mut next = Bracket::halved(initial, initial);
+        let mut next = Bracket::halved(self.start, self.start);
         loop {
             match next {
                 ControlFlow::Break(found) => return Ok(found),
@@ -121,35 +117,33 @@ impl Search {
         }
     }
 
-    // A bracket on the side of x to which the value there points.
+    // A bracket on the side of the start to which the value there points.
     fn bracket_beside<C: Curve>(
         self,
-        x: f64,
         value: f64,
         allowed: &mut Allowance,
     ) -> Result<Option<Bracket>, Spent>
-        requires { finite_positive x ≡ true }
         ensures metered { metered view_option result allowed.new.left
-            ≡ limited allowed.old.left (bracket_beside C.rules x value self.mu self.probability) }
+            ≡ limited allowed.old.left (bracket_beside C.rules self.start value self.mu self.probability) }
         ensures spent { OnErr result (allowed.new.left ≡ 0) }
     {
         if C::root_is_above(value, self.probability) {
-            return self.from_below::<C>(x, allowed);
+            return self.from_below::<C>(allowed);
         }
-        Ok(Some(self.from_above::<C>(x, allowed)?))
+        Ok(Some(self.from_above::<C>(allowed)?))
     }
 
     // At most 64 iterations, after which the midpoint is the root.
     fn iterations<C: Curve>(
         self,
-        start: (Bracket, f64),
+        begin: (Bracket, f64),
         allowed: &mut Allowance,
     ) -> Result<f64, Spent>
         ensures metered { metered (λ r. r) result allowed.new.left
-            ≡ limited allowed.old.left (narrowing C.rules self.mu self.probability start.0 start.1) }
+            ≡ limited allowed.old.left (narrowing C.rules self.mu self.probability begin.0 begin.1) }
         ensures spent { OnErr result (allowed.new.left ≡ 0) }
     {
-        let (mut bracket, mut x) = start;
+        let (mut bracket, mut x) = begin;
         for _ in 0u32..64 {
             let evaluation = C::evaluate(x, self.mu, allowed)?;
             let pdf = evaluation.density(x);
@@ -161,21 +155,17 @@ impl Search {
         Ok(bracket_midpoint(bracket))
     }
 
-    // One evaluation at x, a bracket on the side of the root, and the iterations in it; none where there is no bracket.
-    pub(crate) fn root_from<C: Curve>(
-        self,
-        x: f64,
-        allowed: &mut Allowance,
-    ) -> Result<Option<f64>, Spent>
-        requires { finite_positive x ≡ true }
-        ensures metered { metered view_option result allowed.new.left ≡ limited allowed.old.left (root_from C.rules x self.mu self.probability) }
+    // One evaluation at the start, a bracket on the side of the root, and the iterations in it; none where there is no
+    // bracket.
+    pub(crate) fn root<C: Curve>(self, allowed: &mut Allowance) -> Result<Option<f64>, Spent>
+        ensures metered { metered view_option result allowed.new.left ≡ limited allowed.old.left (root_from C.rules self.start self.mu self.probability) }
         ensures spent { OnErr result (allowed.new.left ≡ 0) }
     {
-        let value = C::evaluate(x, self.mu, allowed)?.value();
-        let Some(bracket) = self.bracket_beside::<C>(x, value, allowed)? else {
+        let value = C::evaluate(self.start, self.mu, allowed)?.value();
+        let Some(bracket) = self.bracket_beside::<C>(value, allowed)? else {
             return Ok(None);
         };
-        let start = (bracket, C::begin(bracket, x));
-        Ok(Some(self.iterations::<C>(start, allowed)?))
+        let begin = (bracket, C::begin(bracket, self.start));
+        Ok(Some(self.iterations::<C>(begin, allowed)?))
     }
 }

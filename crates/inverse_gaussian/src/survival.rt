@@ -32,8 +32,13 @@ pub fn inverse_gaussian_quantile_from_survival(
         return Ok(None);
     }
     let z = -inverse_norm_cdf(probability);
-    let x = starting_point(inverse_gaussian_quantile_initial_guess_from_z(z, mu), mu);
-    Search { mu, probability }.root_from::<SurvivalEvaluation>(x, allowed)
+    let start = starting_point(inverse_gaussian_quantile_initial_guess_from_z(z, mu), mu);
+    let search = Search {
+        start,
+        mu,
+        probability,
+    };
+    search.root::<SurvivalEvaluation>(allowed)
 }
 
 // The survival decreases, so that the root is above a value that is above the probability.

@@ -102,7 +102,8 @@ pub none_of : {R : Type 0} {n : ℕ} (w : R) → spent ≡ limited n (tick (at_o
 none_of {n} w = by_allowance (λ m. spent ≡ m → n ≡ zero) n (tick (at_once w)) (λ h e. never (cc)) (λ h e. omega arith)
 
 -- after one evaluation was taken off, or was not, that of another value gives the same
-pub taken : {R Q : Type 0} (n : ℕ) (u : Q) {m : ℕ} {t : Q} {v w : R} → have t m ≡ limited n (tick (at_once u)) → v ≡ w → have v m ≡ limited n (tick (at_once w))
+pub taken : {R Q : Type 0} (n : ℕ) (u : Q) {m : ℕ} {t : Q} {v w : R} → have t m ≡ limited n (tick (at_once u)) → v ≡ w
+    → have v m ≡ limited n (tick (at_once w))
 taken n u {m} {v = v} {w} e h = let o = (value_of e).1 in rw (limited_enough n (tick (at_once w)) (omega arith), h) (ap (have w) (omega arith))
 
 pub not_taken : {R Q : Type 0} (n : ℕ) (u : Q) (w : R) → spent ≡ limited n (tick (at_once u)) → spent ≡ limited n (tick (at_once w))

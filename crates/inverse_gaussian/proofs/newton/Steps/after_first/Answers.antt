@@ -1,12 +1,12 @@
 -- `newton::Steps::after_first` meets its contract. The invariant: what the definition gives for what was allowed is what it gives
 -- from here for what is left, in the steps that are left. The measure is the steps that are left. Assumes nothing.
-use mathlib.Core.Path.{refl, sym}
+use mathlib.Core.Path.{refl}
 use Prim.Native.Nat.{◌+◌, ◌-◌}
 use native.Mathlib.Omega.{arith}
+use Rattle.inverse_gaussian.specs.Loops.{go}
 use Rattle.inverse_gaussian.specs.Newton.{steps}
-use Rattle.inverse_gaussian.specs.Laws.Counted.{left_out}
 use Rattle.inverse_gaussian.specs.Laws.Metered.{passed_on}
-use Rattle.inverse_gaussian.proofs.Turns.{left_no_value, left_found, stepped}
+use Rattle.inverse_gaussian.proofs.Turns.{left_no_value, left_found, left_last, stepped}
 use Rattle.inverse_gaussian.proofs.newton.Steps.after_first.Goals as goal
 
 pub loop-init : goal.loop-init
@@ -26,4 +26,4 @@ loop-preserved c =
     (stepped _ _ _ _ c.loop.invariant.0 (omega arith) c.in_ok-step.ensures.metered c.in-Continue.ensures, omega arith)
 
 pub returns-clause-metered : goal.returns-clause-metered
-returns-clause-metered c = sym (left_out c.loop.invariant.0 (omega arith))
+returns-clause-metered c = left_last _ _ _ (go (c.loop.x, c.loop.direction)) c.loop.invariant.0 (omega arith)

@@ -11,7 +11,7 @@ use Rattle.inverse_gaussian.proofs.search.Search.from_above.Goals as goal
 pub loop-next-init : goal.loop-next-init
 unfolding downward
 loop-next-init g c = rw c.halved-next.ensures
-    (carried (g.met.C.Curve.downward_ends c.args.self.mu c.args.self.probability c.args.initial c.requires c.well_formed.1.0.1))
+    (carried (g.met.C.Curve.downward_ends c.args.self.mu c.args.self.probability c.args.self.start c.args.self.start_is_positive c.well_formed.0.1.1.0.1))
 
 pub returns-in-Break-clause-metered : goal.returns-in-Break-clause-metered
 returns-in-Break-clause-metered g c = found (carried_at c.loop-next.invariant (ap (view_flow (λ b. b)) c.in-Break.is))

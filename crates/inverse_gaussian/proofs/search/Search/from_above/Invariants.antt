@@ -6,7 +6,10 @@ use Rattle.inverse_gaussian.specs.Laws.Counted.{Carried}
 use Rattle.inverse_gaussian.proofs.search.Search.from_above.Given as goal
 
 abbrev pub invariant-loop-next : goal.invariant-loop-next
-invariant-loop-next g l = Carried (downward_loop g.C.Curve.rules l.self.mu l.self.probability) halvings (limited l.initial.allowed.left (downward g.C.Curve.rules l.fn.initial l.self.mu l.self.probability)) l.allowed.left (view_flow (λ b. b) l.next)
+invariant-loop-next g l =
+    let whole = downward g.C.Curve.rules l.self.start l.self.mu l.self.probability in
+    Carried (downward_loop g.C.Curve.rules l.self.mu l.self.probability) halvings (limited l.initial.allowed.left whole) l.allowed.left
+    (view_flow (λ b. b) l.next)
 
 abbrev pub decreases-loop-next : goal.decreases-loop-next
 decreases-loop-next g l = l.allowed.left

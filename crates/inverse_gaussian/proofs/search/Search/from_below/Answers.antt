@@ -9,7 +9,7 @@ use Rattle.inverse_gaussian.proofs.search.Search.from_below.Goals as goal
 pub loop-value-init : goal.loop-value-init
 unfolding upward
 loop-value-init g c = rw c.bracket_from-bracket.ensures
-    (carried (g.met.C.Curve.upward_ends c.args.self.mu c.args.self.probability c.args.initial c.requires c.well_formed.1.0.1))
+    (carried (g.met.C.Curve.upward_ends c.args.self.mu c.args.self.probability c.args.self.start c.args.self.start_is_positive c.well_formed.0.1.1.0.1))
 
 pub returns-in_err-evaluate-clause-metered : goal.returns-in_err-evaluate-clause-metered
 returns-in_err-evaluate-clause-metered g c =

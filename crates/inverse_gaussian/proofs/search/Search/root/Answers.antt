@@ -1,9 +1,9 @@
--- `search::Search::root_from` meets its contract. Assumes nothing.
+-- `search::Search::root` meets its contract. Assumes nothing.
 use Rattle.inverse_gaussian.specs.Laws.Counted.{some_spent, some_have}
 use Rattle.inverse_gaussian.specs.Laws.Metered.{passed_on}
 use Rattle.inverse_gaussian.proofs.Turns.{told}
 use Rattle.inverse_gaussian.proofs.Searches.{no_start, from_start, no_bracket, nowhere, in_bracket}
-use Rattle.inverse_gaussian.proofs.search.Search.root_from.Goals as goal
+use Rattle.inverse_gaussian.proofs.search.Search.root.Goals as goal
 
 pub returns-in_err-evaluate-clause-metered : goal.returns-in_err-evaluate-clause-metered
 returns-in_err-evaluate-clause-metered g c = passed_on _ _ _ c.from_residual.ensures.0 (no_start _ _ _ _ _ _ c.in_err-evaluate.ensures.metered)

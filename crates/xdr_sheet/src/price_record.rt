@@ -30,18 +30,11 @@ pub struct RecordNumber {
     number: u64,
 }
 
-// The number of the next record, or that the last number was used.
-#[derive(Drop)]
-pub enum Numbered {
-    Record(RecordNumber),
-    Over,
-}
-
 impl RecordNumber {
-    pub fn first() -> Numbered
+    pub fn first() -> Option<RecordNumber>
         ensures { result ≡ first_number }
     {
-        Numbered::Record(RecordNumber { number: 1 })
+        Some(RecordNumber { number: 1 })
     }
 
     pub fn number(self) -> u64
@@ -50,14 +43,12 @@ impl RecordNumber {
         self.number
     }
 
-    pub fn after(self) -> Numbered
+    // The number of the next record, or none after the last number.
+    #[tactic(auto, unfolding(crate::specs::PriceRecord::number_after))]
+    pub fn after(self) -> Option<RecordNumber>
         ensures { result ≡ number_after self }
     {
-        if self.number < u64::MAX {
-            return Numbered::Record(RecordNumber {
-                number: self.number + 1,
-            });
-        }
-        Numbered::Over
+        let number = self.number.checked_add(1)?;
+        Some(RecordNumber { number })
     }
 }

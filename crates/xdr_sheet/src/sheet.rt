@@ -41,13 +41,6 @@ const NO_SHEET: Size = Size::Refusal {
     count: 0,
 };
 
-// What a sheet replies to the number of a quote: the quote's reply, or that it has no such quote.
-#[derive(Drop)]
-pub enum SheetReply {
-    Replied(Reply),
-    NoQuote,
-}
-
 // Too short for a count, too many quotes, or not as long as their count says: refused.
 pub fn quotes_in(sheet: &[u8]) -> Size
     ensures { view_size result ≡ size sheet.now }
@@ -80,19 +73,19 @@ fn quote(sheet: &[u8], at: usize) -> Reply
     implied_black_volatility_discounted(side, price, forward, strike, time, factor)
 }
 
-// The reply of the quote with `index` quotes before it. Each quote of a refused sheet is refused as the sheet is.
-pub fn reply(sheet: &[u8], index: u64) -> SheetReply
+// The reply of the quote with `index` quotes before it, if the sheet has one. Each quote of a refused sheet is refused as the sheet is.
+#[tactic(auto, using(crate::specs::Laws::Sheet::quote_within, crate::specs::Laws::Sheet::quote_there, crate::specs::Laws::Sheet::quote_past, crate::specs::Laws::Sheet::quote_none))]
+pub fn reply(sheet: &[u8], index: u64) -> Option<Reply>
     ensures { view_sheet_reply result ≡ sheet_reply sheet.now index }
 {
     match quotes_in(sheet) {
         Size::Quotes(count) => {
             if index < count as u64 {
-                let at = COUNT_BYTES + QUOTE_BYTES * (index as usize);
-                return SheetReply::Replied(quote(sheet, at));
+                return Some(quote(sheet, COUNT_BYTES + QUOTE_BYTES * (index as usize)));
             }
-            SheetReply::NoQuote
+            None
         }
-        Size::Refusal { number, count } => SheetReply::Replied(Reply::Refusal {
+        Size::Refusal { number, count } => Some(Reply::Refusal {
             number: number,
             count: count,
         }),

@@ -8,7 +8,7 @@ ghost use Rattle.xdr_sheet.specs.Text.{letter};
 ghost use Rattle.xdr_sheet.specs.Printing.{start, quote_step, step, part, filled_with};
 ghost use Rattle.xdr_sheet.specs.Internal.Printing.{view_kind, view_printed, view_filled};
 
-use crate::sheet::{Size, quotes_in, reply};
+use crate::sheet::{quotes_in, reply};
 use crate::tally::Tally;
 use crate::text::{Line, closing_line, place, refused_line, reply_line};
 use explicit_black::quote::Reply;
@@ -27,15 +27,8 @@ impl LineKind {
         ensures { view_kind result ≡ letter (view_reply reply) }
     {
         match reply {
-            Reply::Answer {
-                total: _,
-                volatility: _,
-                count: _,
-            } => LineKind::Answer,
-            Reply::Refusal {
-                number: _,
-                count: _,
-            } => LineKind::Refusal,
+            Ok(_) => LineKind::Answer,
+            Err(_) => LineKind::Refusal,
         }
     }
 
@@ -90,9 +83,9 @@ fn quote_line(tally: Tally, reply: Reply) -> Printed
 pub fn next_line(sheet: &[u8], tally: Tally) -> Printed
     ensures { view_printed result ≡ step sheet.now tally }
 {
-    if let Size::Refusal { number, count: _ } = quotes_in(sheet) {
+    if let Err(refused) = quotes_in(sheet) {
         return Printed {
-            line: refused_line(number),
+            line: refused_line(refused.refusal.number()),
             kind: LineKind::RefusedSheet,
             next: None,
         };
@@ -116,7 +109,7 @@ pub fn fill(sheet: &[u8], progress: Option<Tally>, out: &mut [u8]) -> Filled
     let mut next = progress;
     while let Some(tally) = next {
         let printed = next_line(sheet, tally);
-        let Some(more) = place(&printed.line, &mut out[count..]) else {
+        let Some(more) = place(printed.line.as_slice(), &mut out[count..]) else {
             return Filled { count, next };
         };
         count += more;

@@ -28,26 +28,15 @@ impl Tally {
         ensures { result ≡ tally_with self (view_reply reply) }
     {
         match reply {
-            Reply::Answer {
-                total: _,
-                volatility,
-                count: _,
-            } if is_infinite(volatility) => Tally {
+            Ok(answer) if is_infinite(answer.volatility) => Tally {
                 infinite: self.infinite + 1,
                 ..self
             },
-            Reply::Answer {
-                total: _,
-                volatility: _,
-                count: _,
-            } => Tally {
+            Ok(_) => Tally {
                 finite: self.finite + 1,
                 ..self
             },
-            Reply::Refusal {
-                number: _,
-                count: _,
-            } => Tally {
+            Err(_) => Tally {
                 refusals: self.refusals + 1,
                 ..self
             },

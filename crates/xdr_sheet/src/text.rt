@@ -1,8 +1,10 @@
 // A line of text, in a buffer that holds any. The longest has 78 bytes: two numbers of 20 digits, two of 16, and six bytes between and after them.
-ghost use Rattle.std.specs.Prelude.{◌≡◌, [], ◌++◌, ◌+◌, ◌≤◌, length};
+ghost use Rattle.std.specs.Prelude.{◌≡◌, [], ◌++◌, ◌+◌, ◌≤◌, length, Ok};
+ghost use Rattle.explicit_black.specs.Price.{refusal as refusal_of_price};
+ghost use Rattle.explicit_black.specs.Quote.{refusal};
 ghost use Rattle.explicit_black.specs.Replies.{view_reply, view_price_reply};
 ghost use Rattle.xdr_sheet.specs.Text.{line_bytes, decimal_digits, hexadecimal_digits};
-ghost use Rattle.xdr_sheet.specs.Text.{decimal, hexadecimal, answer_fields, refusal_fields, price_fields, line, price_line, closing, refused_sheet};
+ghost use Rattle.xdr_sheet.specs.Text.{decimal, hexadecimal, line, price_line, closing, refused_sheet};
 ghost use Rattle.xdr_sheet.specs.Internal.Lines.{written, bytes_placed, buffer_after};
 
 use crate::price_record::RecordNumber;
@@ -10,7 +12,7 @@ use crate::tally::Tally;
 use crate::xdr::pattern;
 use arrayvec::ArrayVec;
 use explicit_black::price::PriceReply;
-use explicit_black::quote::Reply;
+use explicit_black::quote::{Answer, Reply};
 
 pub const LINE_BYTES: usize = 80;
 
@@ -33,6 +35,17 @@ impl Line {
         }
     }
 
+    // Its text is a number so far.
+    fn numbered(number: u64) -> Line
+        ensures text { written result ≡ decimal number }
+        ensures few { length (written result) ≤ decimal_digits }
+    {
+        let mut line = Line::empty();
+        line.decimal(number);
+        line
+    }
+
+    // Its text.
     pub fn as_slice(&self) -> &[u8]
         ensures text { result.now ≡ written self.now }
         ensures fits { length result.now ≤ line_bytes }
@@ -68,45 +81,6 @@ impl Line {
         let k = io::hex(bits, HEXADECIMAL_DIGITS, &mut digits);
         self.bytes(&digits[..k]);
     }
-
-    // What follows the number of a quote that is answered.
-    #[tactic(auto, unfolding(crate::specs::Text::answer_fields))]
-    fn answer(&mut self, total: u64, volatility: u64, count: u64)
-        requires { length (written self.old) ≤ decimal_digits }
-        ensures { written self.new ≡ written self.old ++ answer_fields total volatility count }
-    {
-        self.bytes(b" V ");
-        self.hexadecimal(total);
-        self.bytes(b" ");
-        self.hexadecimal(volatility);
-        self.bytes(b" ");
-        self.decimal(count);
-        self.bytes(b"\n");
-    }
-
-    // What follows the number of a quote that is refused.
-    #[tactic(auto, unfolding(crate::specs::Text::refusal_fields))]
-    fn refusal(&mut self, reason: u64, count: u64)
-        requires { length (written self.old) ≤ decimal_digits }
-        ensures { written self.new ≡ written self.old ++ refusal_fields reason count }
-    {
-        self.bytes(b" R ");
-        self.decimal(reason);
-        self.bytes(b" ");
-        self.decimal(count);
-        self.bytes(b"\n");
-    }
-
-    // What follows the number of a record that has a price.
-    #[tactic(auto, unfolding(crate::specs::Text::price_fields))]
-    fn price(&mut self, bits: u64)
-        requires { length (written self.old) ≤ decimal_digits }
-        ensures { written self.new ≡ written self.old ++ price_fields bits }
-    {
-        self.bytes(b" P ");
-        self.hexadecimal(bits);
-        self.bytes(b"\n");
-    }
 }
 
 // The line of a reply with the quote's number.
@@ -114,37 +88,57 @@ impl Line {
 pub fn reply_line(number: u64, reply: Reply) -> Line
     ensures { written result ≡ line number (view_reply reply) }
 {
-    let mut line = Line::empty();
-    line.decimal(number);
     match reply {
-        Reply::Answer {
-            total,
-            volatility,
-            count,
-        } => line.answer(pattern(total), pattern(volatility), count),
-        Reply::Refusal {
-            number: reason,
-            count,
-        } => line.refusal(reason as u64, count),
+        Ok(answer) => answer_line(number, answer),
+        Err(refused) => refusal_line(number, refused.refusal.number(), refused.count),
     }
+}
+
+#[tactic(auto, unfolding(crate::specs::Text::line, crate::specs::Text::answer_fields))]
+fn answer_line(number: u64, answer: Answer) -> Line
+    ensures { written result ≡ line number (view_reply (Ok answer)) }
+{
+    let mut line = Line::numbered(number);
+    line.bytes(b" V ");
+    line.hexadecimal(pattern(answer.total));
+    line.bytes(b" ");
+    line.hexadecimal(pattern(answer.volatility));
+    line.bytes(b" ");
+    line.decimal(answer.count);
+    line.bytes(b"\n");
+    line
+}
+
+// The line of a refusal with any number, of a quote or of a price.
+#[tactic(auto, unfolding(crate::specs::Text::line, crate::specs::Text::price_line, crate::specs::Text::refusal_fields))]
+pub fn refusal_line(number: u64, reason: u32, count: u64) -> Line
+    ensures quote { written result ≡ line number (refusal reason count) }
+    ensures price { written result ≡ price_line number (refusal_of_price reason count) }
+{
+    let mut line = Line::numbered(number);
+    line.bytes(b" R ");
+    line.decimal(reason as u64);
+    line.bytes(b" ");
+    line.decimal(count);
+    line.bytes(b"\n");
     line
 }
 
 // The line of a price's reply with its record's number.
-#[tactic(auto, unfolding(crate::specs::Text::price_line))]
+#[tactic(auto, unfolding(crate::specs::Text::price_line, crate::specs::Text::price_fields))]
 pub fn price_line(number: RecordNumber, reply: PriceReply) -> Line
     ensures { written result ≡ price_line number.number (view_price_reply reply) }
 {
-    let mut line = Line::empty();
-    line.decimal(number.number());
     match reply {
-        PriceReply::Price(price) => line.price(pattern(price)),
-        PriceReply::Refusal {
-            number: reason,
-            count,
-        } => line.refusal(reason as u64, count),
+        Ok(price) => {
+            let mut line = Line::numbered(number.number());
+            line.bytes(b" P ");
+            line.hexadecimal(pattern(price));
+            line.bytes(b"\n");
+            line
+        }
+        Err(refused) => refusal_line(number.number(), refused.refusal.number(), refused.count),
     }
-    line
 }
 
 // The last line: how many finite answers, infinite answers and refusals the quotes have.
@@ -175,13 +169,12 @@ pub fn refused_line(number: u32) -> Line
     line
 }
 
-// Puts a line at the start of a lent buffer: how many bytes that were, or none where the buffer has no room for it and is as before.
+// Puts a text at the start of a lent buffer: how many bytes that were, or none where the buffer has no room for it and is as before.
 #[tactic(auto, unfolding(crate::specs::Internal::Lines::bytes_placed, crate::specs::Internal::Lines::buffer_after))]
-pub fn place(line: &Line, out: &mut [u8]) -> Option<usize>
-    ensures { (result ≡ bytes_placed (written line.now) out.old)
-        × (out.new ≡ buffer_after (written line.now) out.old) }
+pub fn place(text: &[u8], out: &mut [u8]) -> Option<usize>
+    ensures { (result ≡ bytes_placed text.now out.old)
+        × (out.new ≡ buffer_after text.now out.old) }
 {
-    let text = line.as_slice();
     if out.len() < text.len() {
         return None;
     }

@@ -79,7 +79,7 @@ fn quote_line(tally: Tally, reply: Reply) -> Printed
 }
 
 // The line that comes after those of the quotes tallied.
-#[tactic(auto, using(crate::specs::Laws::Sheet::quote_below, crate::specs::Laws::Printing::step_refused, crate::specs::Laws::Printing::step_last, crate::specs::Laws::Printing::step_quote))]
+#[tactic(auto, using(crate::proofs::Cases::step_cases))]
 pub fn next_line(sheet: &[u8], tally: Tally) -> Printed
     ensures { view_printed result ≡ step sheet.now tally }
 {

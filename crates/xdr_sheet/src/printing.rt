@@ -22,16 +22,18 @@ pub enum LineKind {
     RefusedSheet,
 }
 
-impl LineKind {
-    fn of(reply: Reply) -> LineKind
-        ensures { view_kind result ≡ letter (view_reply reply) }
-    {
+impl From<Reply> for LineKind {
+    ghost from_gives = { λ reply kind. view_kind kind ≡ letter (view_reply reply) };
+
+    fn from(reply: Reply) -> LineKind {
         match reply {
             Ok(_) => LineKind::Answer,
             Err(_) => LineKind::Refusal,
         }
     }
+}
 
+impl LineKind {
     pub fn letter(self) -> u8
         ensures { result ≡ view_kind self }
     {
@@ -73,7 +75,7 @@ fn quote_line(tally: Tally, reply: Reply) -> Printed
 {
     Printed {
         line: reply_line(tally.quotes() + 1, reply),
-        kind: LineKind::of(reply),
+        kind: LineKind::from(reply),
         next: Some(tally.with(reply)),
     }
 }

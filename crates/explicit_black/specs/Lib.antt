@@ -4,6 +4,7 @@
 -- Laws has facts about the definitions, each proved. Keystrokes, PriceExamples and DiscountExamples have values that the definitions compute.
 pub mod Quote
 pub mod Price
+pub mod Refusal
 pub mod Replies
 pub mod Demand
 pub mod Discount

@@ -2,65 +2,57 @@
 ghost use Rattle.std.specs.Prelude.{◌≡◌};
 ghost use Rattle.inverse_gaussian.specs.Counted.{limited};
 ghost use Rattle.explicit_black.specs.Discount.{discounted_refusal, from_discounted_quote, implied_black_volatility_discounted};
-ghost use Rattle.explicit_black.specs.Internal.Quote.{view_solved};
+ghost use Rattle.explicit_black.specs.Internal.Quote.{view_refusal, view_solved};
 ghost use Rattle.explicit_black.specs.Replies.{view_reply};
 
-use crate::quote::{MAX_EVALUATIONS, Reply, Solved, first_refusal, from_figures};
+use crate::quote::{MAX_EVALUATIONS, Reply, Solved, from_figures};
+use crate::refusal::Refusal;
+use crate::terms::OptionTerms;
 use arithmetic::basic::is_finite;
 use arithmetic::sqrt::sqrt;
 use inverse_gaussian::curves::Allowance;
 
-// The number of the first of tests 1 to 4 and 15 that applies, or 0. Test 2 includes the factor.
-fn discounted_refusal(
-    side: u32,
-    price: f64,
-    forward: f64,
-    strike: f64,
-    time: f64,
-    factor: f64,
-) -> u32
-    ensures { result ≡ discounted_refusal side price forward strike time factor }
+// The first of tests 1 to 4 and 15 that applies. Test 2 includes the factor.
+#[tactic(auto, using(crate::specs::Laws::Discount::factor_not_finite, crate::specs::Laws::Discount::factor_tested_last, crate::specs::Laws::Quote::no_side, crate::specs::Laws::Quote::a_side))]
+fn discounted_refusal(terms: OptionTerms, price: f64, factor: f64) -> Result<(), Refusal>
+    ensures { view_refusal result ≡ discounted_refusal terms.side price terms.forward terms.strike terms.time factor }
 {
     if !is_finite(factor) {
-        return if side > 1 { 1 } else { 2 };
+        return if terms.side > 1 {
+            Err(Refusal::UnknownSide)
+        } else {
+            Err(Refusal::NotFinite)
+        };
     }
-    let first = first_refusal(side, price, forward, strike, time);
-    if first != 0 {
-        return first;
+    terms.first_refusal(price)?;
+    if !(factor > 0.0) {
+        return Err(Refusal::FactorNotPositive);
     }
-    if factor > 0.0 { 0 } else { 15 }
+    Ok(())
 }
 
 // Solves from the figures of a quote: tests 1 to 4 and 15, and those of the price divided by the factor.
+#[tactic(auto, using(inverse_gaussian::specs::Laws::Counted::limited_now), unfolding(crate::specs::Discount::from_discounted_quote))]
 pub fn from_discounted_quote(
-    side: u32,
+    terms: OptionTerms,
     price: f64,
-    forward: f64,
-    strike: f64,
-    time: f64,
     factor: f64,
     allowed: Allowance,
 ) -> Solved
-    ensures { view_solved result ≡ limited allowed.left (from_discounted_quote side price forward strike time factor) }
+    ensures { view_solved result ≡ limited allowed.left
+        (from_discounted_quote terms.side price terms.forward terms.strike terms.time factor) }
 {
-    let number = discounted_refusal(side, price, forward, strike, time, factor);
-    if number != 0 {
-        return Solved::Refused(number, allowed);
+    match discounted_refusal(terms, price, factor) {
+        Ok(()) => from_figures(terms, price / factor, allowed),
+        Err(refusal) => Solved::Refused(refusal, allowed),
     }
-    from_figures(side, price / factor, forward, strike, time, allowed)
 }
 
-pub fn implied_black_volatility_discounted(
-    side: u32,
-    price: f64,
-    forward: f64,
-    strike: f64,
-    time: f64,
-    factor: f64,
-) -> Reply
-    ensures { view_reply result ≡ implied_black_volatility_discounted side price forward strike time factor }
+#[tactic(auto, unfolding(crate::specs::Discount::implied_black_volatility_discounted))]
+pub fn implied_black_volatility_discounted(terms: OptionTerms, price: f64, factor: f64) -> Reply
+    ensures { view_reply result ≡ implied_black_volatility_discounted terms.side price terms.forward terms.strike terms.time factor }
 {
     let allowed = Allowance::new(MAX_EVALUATIONS);
-    let solved = from_discounted_quote(side, price, forward, strike, time, factor, allowed);
-    solved.reply(MAX_EVALUATIONS, time, sqrt(time))
+    let solved = from_discounted_quote(terms, price, factor, allowed);
+    solved.reply(MAX_EVALUATIONS, terms.time, sqrt(terms.time))
 }

@@ -5,3 +5,5 @@
 pub mod discount;
 pub mod price;
 pub mod quote;
+pub mod refusal;
+pub mod terms;

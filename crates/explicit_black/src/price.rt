@@ -1,31 +1,31 @@
-// The price entry: the price of a volatility, or the number of a refusal.
+// The price entry: the price of a volatility, or why it is refused.
 ghost use Rattle.std.specs.Prelude.{◌≡◌};
 ghost use Rattle.explicit_black.specs.Price.{price_refusal, time_value, price_of, black_price};
+ghost use Rattle.explicit_black.specs.Internal.Quote.{view_refusal};
 ghost use Rattle.explicit_black.specs.Replies.{view_price_reply};
 
-use crate::quote::{first_refusal, intrinsic_value};
+use crate::refusal::{Refusal, Refused};
+use crate::terms::OptionTerms;
 use arithmetic::sqrt::sqrt;
 use bs_option_price::{negative_abs_log_moneyness, normalised_black};
 
-// What the price entry hands back: a price, or the number of a refusal, with no evaluations made.
-#[derive(Drop)]
-pub enum PriceReply {
-    Price(f64),
-    Refusal { number: u32, count: u64 },
-}
+// What the price entry hands back. No evaluations are made for a price, nor before a refusal: its count is 0.
+pub type PriceReply = Result<f64, Refused>;
 
-// The number of the first of tests 1 to 4 and 11 that applies, or 0. The volatility takes the price's place in tests 1 to 4.
-fn price_refusal(side: u32, volatility: f64, forward: f64, strike: f64, time: f64) -> u32
-    ensures { result ≡ price_refusal side volatility forward strike time }
+// The first of tests 1 to 4 and 11 that applies. The volatility takes the price's place in tests 1 to 4.
+#[tactic(auto, unfolding(crate::specs::Price::price_refusal))]
+fn price_refusal(terms: OptionTerms, volatility: f64) -> Result<(), Refusal>
+    ensures { view_refusal result ≡ price_refusal terms.side volatility terms.forward terms.strike terms.time }
 {
-    let first = first_refusal(side, volatility, forward, strike, time);
-    if first != 0 {
-        return first;
+    terms.first_refusal(volatility)?;
+    if volatility < 0.0 {
+        return Err(Refusal::NegativeVolatility);
     }
-    if volatility < 0.0 { 11 } else { 0 }
+    Ok(())
 }
 
 // The part of the price that the intrinsic value, where it is above 0, is added to. s is the total volatility.
+#[tactic(auto, unfolding(crate::specs::Price::time_value))]
 fn time_value(forward: f64, strike: f64, s: f64) -> f64
     ensures { result ≡ time_value forward strike s }
 {
@@ -34,32 +34,27 @@ fn time_value(forward: f64, strike: f64, s: f64) -> f64
 }
 
 // The price at the total volatility s.
-fn price_of(side: u32, forward: f64, strike: f64, s: f64) -> f64
-    ensures { result ≡ price_of side forward strike s }
+#[tactic(auto, unfolding(crate::specs::Price::price_of))]
+fn price_of(terms: OptionTerms, s: f64) -> f64
+    ensures { result ≡ price_of terms.side terms.forward terms.strike s }
 {
-    let intrinsic = intrinsic_value(side, forward, strike);
+    let intrinsic = terms.intrinsic_value();
     if s == 0.0 {
-        if intrinsic > 0.0 {
-            return intrinsic;
-        }
-        return 0.0;
+        return if intrinsic > 0.0 { intrinsic } else { 0.0 };
     }
-    let value = time_value(forward, strike, s);
+    let value = time_value(terms.forward, terms.strike, s);
     if intrinsic > 0.0 {
         return value + intrinsic;
     }
     value
 }
 
-pub fn black_price(side: u32, volatility: f64, forward: f64, strike: f64, time: f64) -> PriceReply
-    ensures { view_price_reply result ≡ black_price side volatility forward strike time }
+#[tactic(auto, unfolding(crate::specs::Price::black_price))]
+pub fn black_price(terms: OptionTerms, volatility: f64) -> PriceReply
+    ensures { view_price_reply result ≡ black_price terms.side volatility terms.forward terms.strike terms.time }
 {
-    let number = price_refusal(side, volatility, forward, strike, time);
-    if number != 0 {
-        return PriceReply::Refusal {
-            number: number,
-            count: 0,
-        };
+    match price_refusal(terms, volatility) {
+        Ok(()) => Ok(price_of(terms, volatility * sqrt(terms.time))),
+        Err(refusal) => Err(Refused { refusal, count: 0 }),
     }
-    PriceReply::Price(price_of(side, forward, strike, volatility * sqrt(time)))
 }

@@ -1,24 +1,30 @@
--- For the inner functions of src/quote.rt: which outcome, in the types of the definitions, each case of an enum that they hand back stands for
--- (`viewX` for the enum X), and what they promise of the allowance. No entry's contract cites these. Definitions only.
-use Rattle.std.specs.Prelude.{◌≡◌, ℕ, ◌≤◌, Float}
+-- For the inner functions of src/: which outcome or number, in the types of the definitions, each case of what they hand back stands for, and what they
+-- promise of the allowance. No entry's contract cites these. Definitions only.
+use Rattle.std.specs.Prelude.{◌≡◌, ℕ, ◌≤◌, Float, Ok, Err, Result}
+use Rattle.std.specs.Prelude.{Option as Decided, Some, None}
 use Rattle.explicit_black.specs.declared.quote.Solved.{Solved}
 use Rattle.explicit_black.specs.declared.quote.Solved.TheVariants.{Total, Refused, Spent}
-use Rattle.explicit_black.specs.declared.quote.Tested.{Tested}
-use Rattle.explicit_black.specs.declared.quote.Tested.TheVariants.{Total as TotalDecided, Refused as RefusalDecided, Open}
+use Rattle.explicit_black.specs.declared.refusal.Refusal.{Refusal}
+use Rattle.explicit_black.specs.Refusal.{number}
 use Rattle.inverse_gaussian.specs.Counted.{Option, some, none, Counted, Metered, have, spent, limited}
 use Rattle.explicit_black.specs.Quote.{Outcome, total, refused, Reply, reply_over}
+
+-- the number of the first test that applies, or 0
+abbrev pub view_refusal : Result Unit Refusal → ℕ
+view_refusal (Ok _) = 0
+view_refusal (Err r) = number r
 
 -- the outcome with how many evaluations are left, or an allowance that was spent
 abbrev pub view_solved : Solved → Metered Outcome
 view_solved (Total v n) = have (total v) n.left
-view_solved (Refused number n) = have (refused number) n.left
+view_solved (Refused r n) = have (refused (number r)) n.left
 view_solved Spent = spent
 
 -- what tests 5 and 6 decide, if anything
-abbrev pub view_tested : Tested → Option Outcome
-view_tested (TotalDecided v) = some (total v)
-view_tested (RefusalDecided number) = some (refused number)
-view_tested Open = none
+abbrev pub view_tested : Result (Decided Float) Refusal → Option Outcome
+view_tested (Ok (Some v)) = some (total v)
+view_tested (Ok None) = none
+view_tested (Err r) = some (refused (number r))
 
 -- the allowance was not spent, and no more than n evaluations are left
 abbrev pub LeftWithin : ℕ → Metered Outcome → Type 0

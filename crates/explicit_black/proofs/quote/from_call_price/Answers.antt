@@ -3,26 +3,12 @@ use mathlib.Core.Path.{ap, ◌∙◌}
 use Rattle.explicit_black.proofs.Allowed.{limited_searched}
 use Rattle.inverse_gaussian.specs.Counted.{mapped}
 use Rattle.explicit_black.specs.Quote.{total_at, from_call_price}
-use Rattle.inverse_gaussian.specs.Laws.Counted.{limited_now}
-use lib.Ieee.{nan_bits}
 use Rattle.explicit_black.proofs.quote.from_call_price.Goals as goal
 
 pub returns-then-otm_call_price : goal.returns-then-otm_call_price
 unfolding from_call_price
 returns-then-otm_call_price c = rw (c.if-otm_call_price.true, limited_searched)
     (c.total_at.ensures ∙ ap (mapped total_at) c.inverse_gaussian_quantile_from_survival.ensures)
-
-pub float_from_bits-result : goal.float_from_bits-result
-unfolding nan_bits
-float_from_bits-result c = tt
-
-pub returns-then-probability : goal.returns-then-probability
-unfolding from_call_price
-returns-then-probability c = rw (c.if-otm_call_price.false, c.if-probability.true, limited_now)
-
-pub returns-then-probability-2 : goal.returns-then-probability-2
-unfolding from_call_price
-returns-then-probability-2 c = rw (c.if-otm_call_price.false, c.if-probability.false, c.if-probability-2.true, limited_now)
 
 pub returns : goal.returns
 unfolding from_call_price

@@ -4,17 +4,8 @@ use Rattle.explicit_black.proofs.Allowed.{answers, refuses}
 use Rattle.inverse_gaussian.specs.Laws.Counted.{seen}
 use Rattle.explicit_black.proofs.quote.Solved.reply.Goals as goal
 
-pub overflow_sub-result : goal.overflow_sub-result
-overflow_sub-result c = rw c.left.ensures (rw c.in-Total.is at c.requires)
-
-pub overflow_sub-result-in-Refused : goal.overflow_sub-result-in-Refused
-overflow_sub-result-in-Refused c = rw c.left-in-Refused.ensures (rw c.in-Refused.is at c.requires)
-
 pub returns-in-Total : goal.returns-in-Total
 returns-in-Total c = rw c.left.ensures (λ d e. answers _ _ _ _ _ d (seen view_solved e c.in-Total.is) c.volatility.ensures)
 
 pub returns-in-Refused : goal.returns-in-Refused
 returns-in-Refused c = rw c.left-in-Refused.ensures (λ d e. refuses _ _ _ _ _ d (seen view_solved e c.in-Refused.is))
-
-pub returns-in-Spent : goal.returns-in-Spent
-returns-in-Spent c = absurd (rw c.in-Spent.is at c.requires)

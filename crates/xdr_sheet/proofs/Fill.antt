@@ -1,22 +1,19 @@
 -- A buffer that is filled a line at a time. Assumes nothing.
 use mathlib.Core.Path.{◌≡◌, refl, sym, ap, ◌∙◌}
 use mathlib.Core.List.{List, [], ◌++◌, append_assoc, append-nil}
+use Rattle.std.specs.Prelude.{Option, Some, None}
 use Prim.Native.Nat.{ℕ, ◌+◌, ◌-◌, ◌≤◌, ◌<◌}
 use native.Mathlib.Omega.{arith}
-use borrow.Rule.Slice.PartMut.{mid_of, put_mid, same_len_mid}
+use borrow.Rule.Slice.PartMut.{mid_of, put_mid}
 use lib.ListN.{length, take, drop, length-append, length-drop, take-append-drop, drop_of_length-le}
 use lib.Seq.{take_all, take-append_seam, drop-append_seam, drop-drop}
 use Rattle.xdr_sheet.specs.Text.{overlaid}
 use Rattle.xdr_sheet.specs.Internal.Lines.{bytes_placed, buffer_after}
 use Rattle.xdr_sheet.specs.Laws.Lines.{bytes_placed_lem, none_placed}
-use Rattle.xdr_sheet.specs.Printing.{Step, step, left, Part, no_part, ◌before◌, part, filled_with}
+use Rattle.xdr_sheet.specs.Printing.{Progress, Step, step, left, Part, no_part, ◌before◌, part, filled_with}
 use Rattle.xdr_sheet.specs.Internal.Printing.{view_filled}
 use Rattle.xdr_sheet.specs.Laws.Printing.{rest_step, part_over, part_line, part_none}
 use Rattle.xdr_sheet.specs.declared.tally.Tally.{Tally}
-use Rattle.xdr_sheet.specs.declared.text.Placed.{Placed}
-use Rattle.xdr_sheet.specs.declared.text.Placed.TheVariants.{Bytes, NoRoom}
-use Rattle.xdr_sheet.specs.declared.printing.Progress.{Progress}
-use Rattle.xdr_sheet.specs.declared.printing.Progress.TheVariants.{Tallied, Over}
 
 -- some lines are in the buffer, and what else goes into it comes after them
 pub record Sofar (s : List ℕ) (p : Progress) (buffer : List ℕ) (count : ℕ) (next : Progress) (out : List ℕ) : Type 0 where
@@ -42,9 +39,9 @@ enough s p buffer count next out h g =
 
 -- the last line is in the buffer
 pub all_lines : {s : List ℕ} {p : Progress} {buffer : List ℕ} {count : ℕ} {next : Progress} {out : List ℕ}
-    → Sofar s p buffer count next out → next ≡ Over
-    → view_filled (record { count = count; next = Over }) out ≡ filled_with buffer (part s p (length buffer))
-all_lines {s} {p} {buffer} {count} {out = out} h e = enough s p buffer count Over out (rw e at h) (part_over s (length buffer - count))
+    → Sofar s p buffer count next out → next ≡ None
+    → view_filled (record { count = count; next = next }) out ≡ filled_with buffer (part s p (length buffer))
+all_lines {s} {p} {buffer} {count} {next} {out} h e = enough s p buffer count next out h (rw e (part_over s (length buffer - count)))
 
 -- ---- texts in buffers
 overlaid_more : (done l buffer : List ℕ) → done ++ overlaid l (drop (length done) buffer) ≡ overlaid (done ++ l) buffer
@@ -69,7 +66,7 @@ module _ (count : ℕ) (out : List ℕ) where
 
 -- ---- a line after those in the buffer
 module _ (s : List ℕ) (p : Progress) (buffer : List ℕ) (count : ℕ) (t : Tally) (out : List ℕ)
-    (h : Sofar s p buffer count (Tallied t) out) where
+    (h : Sofar s p buffer count (Some t) out) where
   abbrev line : List ℕ
   line = (step s t).text
 
@@ -102,35 +99,31 @@ module _ (s : List ℕ) (p : Progress) (buffer : List ℕ) (count : ℕ) (t : Ta
       }
 
   none_fits : length (drop count out) < length line
-      → view_filled (record { count = count; next = Tallied t }) out ≡ filled_with buffer (part s p (length buffer))
-  none_fits g = enough s p buffer count (Tallied t) out h (part_none s t (length buffer - count) (omega (arith, room)))
+      → view_filled (record { count = count; next = Some t }) out ≡ filled_with buffer (part s p (length buffer))
+  none_fits g = enough s p buffer count (Some t) out h (part_none s t (length buffer - count) (omega (arith, room)))
 
 -- ---- the line is put into what is lent of the buffer, or has no room there
-abbrev Puts : List ℕ → ℕ → List ℕ → Placed → List ℕ → Type 0
+abbrev Puts : List ℕ → ℕ → List ℕ → Option ℕ → List ℕ → Type 0
 Puts text count out r ys =
     let lent = mid_of count (length out - count) out in
     (r ≡ bytes_placed text lent) × (ys ≡ buffer_after text lent)
 
 module _ {s : List ℕ} {p : Progress} {buffer : List ℕ} {count : ℕ} {next : Progress} {out : List ℕ} {t : Tally} {l : Step}
-    (h : Sofar s p buffer count next out) (e : next ≡ Tallied t) (m : l ≡ step s t) where
-  pub one_line : (n : ℕ) (ys : List ℕ) → Puts l.text count out (Bytes n) ys
+    (h : Sofar s p buffer count next out) (e : next ≡ Some t) (m : l ≡ step s t) where
+  pub one_line : (n : ℕ) (ys : List ℕ) → Puts l.text count out (Some n) ys
       → Sofar s p buffer (count + n) l.next (put_mid count (length out - count) out ys)
   one_line n ys g =
       let f = bytes_placed_lem l.text (mid_of count (length out - count) out) n g.0 in
       rw (put_tail count out ys, g.1, f.2, f.0, m, tail count out)
       (line_fits s p buffer count t out (rw e at h) (rw (m, tail count out) at f.1))
 
-  pub no_line : (ys : List ℕ) → Puts l.text count out NoRoom ys
-      → view_filled (record { count = count; next = Tallied t }) (put_mid count (length out - count) out ys)
+  pub no_line : (ys : List ℕ) → Puts l.text count out None ys
+      → view_filled (record { count = count; next = Some t }) (put_mid count (length out - count) out ys)
       ≡ filled_with buffer (part s p (length buffer))
   no_line ys g =
       let f = none_placed l.text (mid_of count (length out - count) out) g.0 in
       rw (put_tail count out ys, g.1, f.1, tail count out, take-append-drop count out)
       (none_fits s p buffer count t out (rw e at h) (rw (m, tail count out) at f.0))
-
-  pub same_back : (ys : List ℕ) → length ys ≡ length (mid_of count (length out - count) out)
-      → length (put_mid count (length out - count) out ys) ≡ length buffer
-  same_back ys g = same_len_mid count (length out - count) out ys g ∙ h.same
 
   pub line_falls : left s l.next < left s next
   line_falls = rw (e, m, rest_step s t) (omega arith)

@@ -1,4 +1,5 @@
 -- Laws that only the proofs of this crate cite.
 mod Fill
 mod Patterns
-mod Lines
+pub mod Lines
+pub mod Words

@@ -1,17 +1,19 @@
 -- A sheet's text line by line, and in parts of whole lines as buffers hold them (REQUIREMENTS 11.6). Definitions only.
 use Prim.Native.Char.{code}
-use Rattle.std.specs.Prelude.{ℕ, zero, suc, ◌+◌, ◌-◌, ◌≤◌, cond, List, [], ◌∷◌, ◌++◌, length}
+use Rattle.std.specs.Prelude.{ℕ, zero, suc, ◌+◌, ◌-◌, ◌≤◌, cond, List, [], ◌∷◌, ◌++◌, length, Option, Some, None}
 use Rattle.explicit_black.specs.Quote.{Reply}
 use Rattle.xdr_sheet.specs.Tally.{empty_tally, tally_with, tally_count}
 use Rattle.xdr_sheet.specs.Text.{line_bytes, line, letter, closing, refused_sheet, fits_into, overlaid}
 use Rattle.xdr_sheet.specs.Sheet.{Size, quotes, refused, size, reply_at, SheetReply, replied, no_quote, sheet_reply}
 use Rattle.xdr_sheet.specs.declared.tally.Tally.{Tally}
-use Rattle.xdr_sheet.specs.declared.printing.Progress.{Progress}
-use Rattle.xdr_sheet.specs.declared.printing.Progress.TheVariants.{Tallied, Over}
+
+-- how far the text is printed: the lines of the quotes tallied, or all of it
+abbrev pub Progress : Type 0
+Progress = Option Tally
 
 -- before the first line
 abbrev pub start : Progress
-start = Tallied empty_tally
+start = Some empty_tally
 
 -- ---- a line: its text, its letter, and the progress after it
 pub record Step : Type 0 where
@@ -21,13 +23,13 @@ pub record Step : Type 0 where
 
 -- the line of a quote after those tallied; the last, with the tally; the line of a refused sheet
 abbrev pub quote_step : Tally → Reply → Step
-quote_step t r = record { text = line (tally_count t + 1) r; letter = letter r; next = Tallied (tally_with t r) }
+quote_step t r = record { text = line (tally_count t + 1) r; letter = letter r; next = Some (tally_with t r) }
 
 abbrev pub last_step_of : Tally → Step
-last_step_of t = record { text = closing t; letter = code "T"; next = Over }
+last_step_of t = record { text = closing t; letter = code "T"; next = None }
 
 abbrev pub refused_step : ℕ → Step
-refused_step number = record { text = refused_sheet number; letter = code "S"; next = Over }
+refused_step number = record { text = refused_sheet number; letter = code "S"; next = None }
 
 -- the line after those of the quotes tallied
 abbrev pub step_at : Tally → SheetReply → Step
@@ -53,8 +55,8 @@ rest_of s t (refused number count) = refused_step number ∷ []
 
 unfoldable pub rest : List ℕ → Progress → List Step
 unfolding size upcoming
-rest s (Tallied t) = rest_of s t (size s)
-rest s Over = []
+rest s (Some t) = rest_of s t (size s)
+rest s None = []
 
 -- how many lines: 0 where the last is printed
 abbrev pub left : List ℕ → Progress → ℕ

@@ -3,8 +3,8 @@ ghost use Rattle.std.specs.Prelude.{◌≡◌};
 ghost use Rattle.explicit_black.specs.Replies.{view_price_reply};
 ghost use Rattle.xdr_sheet.specs.PriceRecord.{price_reply, first_number, number_after};
 
-use crate::sheet::{FORWARD, PRICE, STRIKE, TIME};
-use crate::xdr::{double, unsigned};
+use crate::sheet::{PRICE, TIME, terms};
+use crate::xdr::double;
 use explicit_black::price::{PriceReply, black_price};
 
 const DOUBLE_BYTES: usize = 8;
@@ -13,15 +13,11 @@ const DOUBLE_BYTES: usize = 8;
 pub const RECORD_BYTES: usize = TIME + DOUBLE_BYTES;
 
 // The reply of the record at the start of the bytes. A figure whose bytes are not all there is read as 0.
+#[tactic(auto, unfolding(crate::specs::PriceRecord::price_reply))]
 pub fn price_reply(s: &[u8]) -> PriceReply
     ensures { view_price_reply result ≡ price_reply s.now }
 {
-    let side = unsigned(s, 0);
-    let volatility = double(s, PRICE);
-    let forward = double(s, FORWARD);
-    let strike = double(s, STRIKE);
-    let time = double(s, TIME);
-    black_price(side, volatility, forward, strike, time)
+    black_price(terms(s, 0), double(s, PRICE))
 }
 
 // The number of a record. Its field is private, so that no other code makes one but by `first` and `after`.
@@ -30,18 +26,11 @@ pub struct RecordNumber {
     number: u64,
 }
 
-// The number of the next record, or that the last number was used.
-#[derive(Drop)]
-pub enum Numbered {
-    Record(RecordNumber),
-    Over,
-}
-
 impl RecordNumber {
-    pub fn first() -> Numbered
+    pub fn first() -> Option<RecordNumber>
         ensures { result ≡ first_number }
     {
-        Numbered::Record(RecordNumber { number: 1 })
+        Some(RecordNumber { number: 1 })
     }
 
     pub fn number(self) -> u64
@@ -50,14 +39,12 @@ impl RecordNumber {
         self.number
     }
 
-    pub fn after(self) -> Numbered
+    // The number of the next record, or none after the last number.
+    #[tactic(auto, unfolding(crate::specs::PriceRecord::number_after))]
+    pub fn after(self) -> Option<RecordNumber>
         ensures { result ≡ number_after self }
     {
-        if self.number < u64::MAX {
-            return Numbered::Record(RecordNumber {
-                number: self.number + 1,
-            });
-        }
-        Numbered::Over
+        let number = self.number.checked_add(1)?;
+        Some(RecordNumber { number })
     }
 }

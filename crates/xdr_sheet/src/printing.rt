@@ -1,60 +1,69 @@
-// The text of a sheet's answers: a line at a time, and as many lines as a buffer holds.
+// The text of a sheet's answers: a line at a time, and as many lines as a buffer holds. How far it is printed is the tally of the quotes
+// whose lines are, and none once all of it is.
 ghost use Rattle.std.specs.Prelude.{◌≡◌, ◌<◌, length};
 ghost use Rattle.explicit_black.specs.Replies.{view_reply};
 ghost use Rattle.xdr_sheet.specs.Sheet.{max_quotes};
 ghost use Rattle.xdr_sheet.specs.Tally.{tally_count};
 ghost use Rattle.xdr_sheet.specs.Text.{letter};
 ghost use Rattle.xdr_sheet.specs.Printing.{start, quote_step, step, part, filled_with};
-ghost use Rattle.xdr_sheet.specs.Internal.Printing.{view_printed, view_filled};
+ghost use Rattle.xdr_sheet.specs.Internal.Printing.{view_kind, view_printed, view_filled};
 
-use crate::sheet::{SheetReply, Size, quotes_in, reply};
+use crate::sheet::{quotes_in, reply};
 use crate::tally::Tally;
-use crate::text::{Line, Placed, closing_line, place, refused_line, reply_line};
+use crate::text::{Line, closing_line, place, refused_line, reply_line};
 use explicit_black::quote::Reply;
 
-// How far the text is printed: the lines of the quotes tallied, or all of it.
-#[derive(Drop)]
-pub enum Progress {
-    Tallied(Tally),
-    Over,
+// The lines of an answer, of a refusal, of the tally and of a refused sheet.
+#[derive(Clone, Copy, Debug, PartialEq, Eq)]
+pub enum LineKind {
+    Answer,
+    Refusal,
+    Tally,
+    RefusedSheet,
 }
 
-// A line with its letter, and the progress after it.
+impl LineKind {
+    fn of(reply: Reply) -> LineKind
+        ensures { view_kind result ≡ letter (view_reply reply) }
+    {
+        match reply {
+            Ok(_) => LineKind::Answer,
+            Err(_) => LineKind::Refusal,
+        }
+    }
+
+    pub fn letter(self) -> u8
+        ensures { result ≡ view_kind self }
+    {
+        match self {
+            LineKind::Answer => b'V',
+            LineKind::Refusal => b'R',
+            LineKind::Tally => b'T',
+            LineKind::RefusedSheet => b'S',
+        }
+    }
+}
+
+// A line with its kind, and how far the text is printed after it.
 #[derive(Drop)]
 pub struct Printed {
     pub line: Line,
-    pub letter: u8,
-    pub next: Progress,
+    pub kind: LineKind,
+    pub next: Option<Tally>,
 }
 
-// How many bytes of a buffer are filled, and the progress after them.
+// How many bytes of a buffer are filled, and how far the text is printed after them.
 #[derive(Drop)]
 pub struct Filled {
     pub count: usize,
-    pub next: Progress,
+    pub next: Option<Tally>,
 }
 
-// The progress before the first line.
-pub fn start() -> Progress
+// Before the first line.
+pub fn start() -> Option<Tally>
     ensures { result ≡ start }
 {
-    Progress::Tallied(Tally::empty())
-}
-
-fn letter(reply: Reply) -> u8
-    ensures { result ≡ letter (view_reply reply) }
-{
-    match reply {
-        Reply::Answer {
-            total: _,
-            volatility: _,
-            count: _,
-        } => b'V',
-        Reply::Refusal {
-            number: _,
-            count: _,
-        } => b'R',
-    }
+    Some(Tally::default())
 }
 
 // The line of a quote after those tallied.
@@ -62,67 +71,49 @@ fn quote_line(tally: Tally, reply: Reply) -> Printed
     requires { tally_count tally < max_quotes }
     ensures { view_printed result ≡ quote_step tally (view_reply reply) }
 {
-    let line = reply_line(tally.quotes() + 1, reply);
-    let letter = letter(reply);
-    let next = Progress::Tallied(tally.with(reply));
     Printed {
-        line: line,
-        letter: letter,
-        next: next,
+        line: reply_line(tally.quotes() + 1, reply),
+        kind: LineKind::of(reply),
+        next: Some(tally.with(reply)),
     }
 }
 
 // The line that comes after those of the quotes tallied.
+#[tactic(auto, using(crate::specs::Laws::Sheet::quote_below, crate::specs::Laws::Printing::step_refused, crate::specs::Laws::Printing::step_last, crate::specs::Laws::Printing::step_quote))]
 pub fn next_line(sheet: &[u8], tally: Tally) -> Printed
     ensures { view_printed result ≡ step sheet.now tally }
 {
-    match quotes_in(sheet) {
-        Size::Quotes(_) => match reply(sheet, tally.quotes()) {
-            SheetReply::Replied(reply) => quote_line(tally, reply),
-            SheetReply::NoQuote => {
-                let line = closing_line(tally);
-                Printed {
-                    line: line,
-                    letter: b'T',
-                    next: Progress::Over,
-                }
-            }
+    if let Err(refused) = quotes_in(sheet) {
+        return Printed {
+            line: refused_line(refused.refusal.number()),
+            kind: LineKind::RefusedSheet,
+            next: None,
+        };
+    }
+    match reply(sheet, tally.quotes()) {
+        Some(reply) => quote_line(tally, reply),
+        None => Printed {
+            line: closing_line(tally),
+            kind: LineKind::Tally,
+            next: None,
         },
-        Size::Refusal { number, count: _ } => {
-            let line = refused_line(number);
-            Printed {
-                line: line,
-                letter: b'S',
-                next: Progress::Over,
-            }
-        }
     }
 }
 
 // As many whole next lines as the buffer holds, at its start.
-pub fn fill(sheet: &[u8], progress: Progress, out: &mut [u8]) -> Filled
+pub fn fill(sheet: &[u8], progress: Option<Tally>, out: &mut [u8]) -> Filled
     ensures { view_filled result out.new
         ≡ filled_with out.old (part sheet.now progress (length out.old)) }
 {
     let mut count: usize = 0;
     let mut next = progress;
-    loop {
-        let Progress::Tallied(tally) = next else {
-            return Filled {
-                count: count,
-                next: Progress::Over,
-            };
-        };
+    while let Some(tally) = next {
         let printed = next_line(sheet, tally);
-        let line = printed.line;
-        let after = printed.next;
-        let Placed::Bytes(more) = place(line, &mut out[count..]) else {
-            return Filled {
-                count: count,
-                next: next,
-            };
+        let Some(more) = place(printed.line.as_slice(), &mut out[count..]) else {
+            return Filled { count, next };
         };
         count += more;
-        next = after;
+        next = printed.next;
     }
+    Filled { count, next }
 }

@@ -1,64 +1,35 @@
 // Words of XDR (RFC 4506), the highest byte first. Where their bytes are not all there, 0 is read.
-ghost use Rattle.std.specs.Prelude.{◌≡◌, ◌+◌, ◌≤◌, ◌<◌, ◌^◌, length};
+ghost use Rattle.std.specs.Prelude.{◌≡◌};
 ghost use Rattle.std.specs.Float.{binary64};
 ghost use Rattle.std.specs.Float.Ieee.{of_bits, to_bits};
-ghost use Rattle.xdr_sheet.specs.Xdr.{word, there, unsigned, hyper, double};
+ghost use Rattle.xdr_sheet.specs.Xdr.{unsigned, hyper, double};
+ghost use Rattle.xdr_sheet.specs.Internal.Bytes.{bytes_at};
 
 use arithmetic::format::{INFINITY, SIGN};
 
-const WORD_BYTES: usize = 4;
-
-const HYPER_BYTES: usize = 8;
-
-// How many values a byte has, and a word.
-const BYTE_VALUES: u64 = 0x100;
-
-const WORD_VALUES: u64 = 0x1_0000_0000;
-
 const QUIET_NAN: u64 = 0x7ff8_0000_0000_0000;
 
-fn wide(byte: u8) -> u64
-    ensures { (result ≡ byte) × (result < 256) }
+// The N bytes from `at` on, if they are all there.
+fn bytes_at<const N: usize>(s: &[u8], at: usize) -> Option<[u8; N]>
+    ensures { result ≡ bytes_at s.now at N }
 {
-    byte as u64
-}
-
-fn word(s: &[u8], at: usize) -> u64
-    requires { at + 4 ≤ length s.now }
-    ensures { (result ≡ word s.now at) × (result < 2 ^ 32) }
-{
-    let high = wide(s[at]) * BYTE_VALUES + wide(s[at + 1]);
-    (high * BYTE_VALUES + wide(s[at + 2])) * BYTE_VALUES + wide(s[at + 3])
-}
-
-// Whether `count` bytes are there from `at` on.
-fn there(s: &[u8], at: usize, count: usize) -> bool
-    ensures { result ≡ there s.now at count }
-{
-    if s.len() < at {
-        return false;
-    }
-    count <= s.len() - at
+    s.get(at..)?.first_chunk().copied()
 }
 
 // An unsigned integer, in a word.
+#[tactic(auto, using(crate::proofs::Words::unsigned_is))]
 pub fn unsigned(s: &[u8], at: usize) -> u32
     ensures { result ≡ unsigned s.now at }
 {
-    if there(s, at, WORD_BYTES) {
-        return word(s, at) as u32;
-    }
-    0
+    bytes_at(s, at).map_or(0, u32::from_be_bytes)
 }
 
 // An unsigned hyper integer, in two words.
+#[tactic(auto, using(crate::proofs::Words::hyper_is))]
 fn hyper(s: &[u8], at: usize) -> u64
     ensures { result ≡ hyper s.now at }
 {
-    if there(s, at, HYPER_BYTES) {
-        return word(s, at) * WORD_VALUES + word(s, at + WORD_BYTES);
-    }
-    0
+    bytes_at(s, at).map_or(0, u64::from_be_bytes)
 }
 
 // The value of a pattern. `from_bits` is not defined on the patterns of NaN: a NaN is made by arithmetic.

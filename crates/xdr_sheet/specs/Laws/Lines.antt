@@ -1,6 +1,6 @@
 -- No line has more than `line_bytes` bytes, and none of a sheet more than `sheet_line_bytes`; what follows from whether a text was put at the start of a
 -- buffer. Assumes nothing.
-use Rattle.std.specs.Prelude.{◌≡◌, refl, ℕ, zero, suc, ◌+◌, ◌/◌, ◌%◌, ◌^◌, ◌≤◌, ◌<◌, Bool, not, List, [], ◌∷◌, T, ltb}
+use Rattle.std.specs.Prelude.{◌≡◌, refl, ℕ, zero, suc, ◌+◌, ◌/◌, ◌%◌, ◌^◌, ◌≤◌, ◌<◌, Bool, not, List, [], ◌∷◌, T, ltb, Some, None}
 use Rattle.std.proofs.Common.{◌∙◌, arith, le_trans, lt-ltb, lit≤, leb→le, pow-add, length-append}
 use Rattle.std.proofs.Math.Bool.{true, false, cond}
 use Rattle.std.proofs.Math.Dec.{nleb→lt}
@@ -15,7 +15,6 @@ use Rattle.xdr_sheet.specs.Text.{decimal_digits, hexadecimal_digits, line_bytes,
 use Rattle.xdr_sheet.specs.Text.{line, closing, refused_sheet, fits_into, overlaid}
 use Rattle.xdr_sheet.specs.Internal.Lines.{bytes_placed, buffer_after}
 use Rattle.xdr_sheet.specs.declared.tally.Tally.{Tally}
-use Rattle.xdr_sheet.specs.declared.text.Placed.TheVariants.{Bytes, NoRoom}
 
 -- ---- how many digits a number has
 length_digits : (b k n : ℕ) → length (last_digits b k n) ≡ k
@@ -92,21 +91,21 @@ refused_fits number = le_trans (refused_within number) (lit≤ tt)
 
 -- ---- a text was put at the start of a buffer, or had no room there
 module _ (text buffer : List ℕ) where
-  pub bytes_placed_lem : (n : ℕ) → Bytes n ≡ bytes_placed text buffer
+  pub bytes_placed_lem : (n : ℕ) → Some n ≡ bytes_placed text buffer
       → (n ≡ length text) × (length text ≤ length buffer) × (buffer_after text buffer ≡ overlaid text buffer)
   unfolding bytes_placed buffer_after
   bytes_placed_lem n e = go (fits_into text (length buffer)) (leb→le (length text) (length buffer)) e
     where
-      go : (b : Bool) → (T b → length text ≤ length buffer) → Bytes n ≡ cond b (Bytes (length text)) NoRoom
+      go : (b : Bool) → (T b → length text ≤ length buffer) → Some n ≡ cond b (Some (length text)) None
           → (n ≡ length text) × (length text ≤ length buffer) × (cond b (overlaid text buffer) buffer ≡ overlaid text buffer)
       go true h e = (cc, h tt, refl)
       go false h e = never (cc)
 
-  pub none_placed : NoRoom ≡ bytes_placed text buffer → (length buffer < length text) × (buffer_after text buffer ≡ buffer)
+  pub none_placed : None ≡ bytes_placed text buffer → (length buffer < length text) × (buffer_after text buffer ≡ buffer)
   unfolding bytes_placed buffer_after
   none_placed e = go (fits_into text (length buffer)) (nleb→lt (length text) (length buffer)) e
     where
-      go : (b : Bool) → (T (not b) → length buffer < length text) → NoRoom ≡ cond b (Bytes (length text)) NoRoom
+      go : (b : Bool) → (T (not b) → length buffer < length text) → None ≡ cond b (Some (length text)) None
           → (length buffer < length text) × (cond b (overlaid text buffer) buffer ≡ buffer)
       go true h e = never (cc)
       go false h e = (h tt, refl)

@@ -1,5 +1,5 @@
 -- The parts of a sheet, one after another, are its text, and each has a line of it; how long such a line is. Assumes nothing.
-use Rattle.std.specs.Prelude.{◌≡◌, refl, ℕ, zero, suc, ◌+◌, ◌-◌, ◌^◌, ◌≤◌, ◌<◌, cond, List, [], ◌∷◌, ◌++◌, length, drop}
+use Rattle.std.specs.Prelude.{◌≡◌, refl, ℕ, zero, suc, ◌+◌, ◌-◌, ◌^◌, ◌≤◌, ◌<◌, cond, List, [], ◌∷◌, ◌++◌, length, drop, Some, None}
 use Rattle.std.proofs.Common.{sym, ap, ◌∙◌, arith, add-one, le_trans, lt_of_le_of_lt, lit≤, inl, inr, append_assoc, append-nil, le-leb, length-append}
 use Rattle.std.proofs.lemmas.Bool.{lt-leb}
 use Rattle.arithmetic.specs.Laws.Choices.{in_both}
@@ -14,13 +14,11 @@ use Rattle.xdr_sheet.specs.Sheet.{lines, tally, text_of, text}
 use Rattle.xdr_sheet.specs.Laws.Sheet.{size_count, quote_there, quote_past}
 use Rattle.xdr_sheet.specs.Laws.Lines.{line_short, closing_short, refused_short, line_fits, closing_fits, refused_fits}
 use Rattle.xdr_sheet.specs.Laws.Tally.{count_with, tally_counts}
-use Rattle.xdr_sheet.specs.Printing.{start, Step, quote_step, last_step_of, refused_step, step_at, step_of, step}
+use Rattle.xdr_sheet.specs.Printing.{Progress, start, Step, quote_step, last_step_of, refused_step, step_at, step_of, step}
 use Rattle.xdr_sheet.specs.Printing.{upcoming, rest_of, rest, left}
 use Rattle.xdr_sheet.specs.Printing.{Part, no_part, ◌before◌, part_of, part, parts, Roomy, FilledBuffer, filled_with}
 use Rattle.xdr_sheet.specs.Internal.Printing.{view_filled}
 use Rattle.xdr_sheet.specs.declared.tally.Tally.{Tally}
-use Rattle.xdr_sheet.specs.declared.printing.Progress.{Progress}
-use Rattle.xdr_sheet.specs.declared.printing.Progress.TheVariants.{Tallied, Over}
 use Rattle.xdr_sheet.specs.declared.printing.Filled.{Filled}
 
 -- ---- the line after those of the quotes tallied, by what the sheet has
@@ -47,11 +45,11 @@ rest_quotes s t n e (suc m) h =
     let f : n - tally_count (tally_with t r) ≡ m = omega (arith, count_with t r) in
     rw (← step_quote s t n r e (quote_there s n (tally_count t) e (omega arith)), ← e, f)
 
-pub rest_step : (s : List ℕ) (t : Tally) → rest s (Tallied t) ≡ step s t ∷ rest s (step s t).next
+pub rest_step : (s : List ℕ) (t : Tally) → rest s (Some t) ≡ step s t ∷ rest s (step s t).next
 unfolding rest step
 rest_step s t = go (size s) refl
   where
-    go : (z : Size) → size s ≡ z → rest s (Tallied t) ≡ step s t ∷ rest s (step s t).next
+    go : (z : Size) → size s ≡ z → rest s (Some t) ≡ step s t ∷ rest s (step s t).next
     go (refused number count) e = rw e
     go (quotes n) e = ap (λ (z : Size). rest_of s t z) e ∙ rest_quotes s t n (sym e) (n - tally_count t) refl
 
@@ -87,7 +85,7 @@ step_fits s t a b c = go (size s) refl
     ]
 
 -- ---- a part, a line at a time
-pub part_over : (s : List ℕ) (room : ℕ) → part s Over room ≡ no_part Over
+pub part_over : (s : List ℕ) (room : ℕ) → part s None room ≡ no_part None
 unfolding part
 part_over s room = refl
 
@@ -95,15 +93,15 @@ module _ (s : List ℕ) (t : Tally) (room : ℕ) where
   abbrev here : List ℕ
   here = (step s t).text
 
-  part_step : part s (Tallied t) room
-      ≡ cond (fits_into here room) (here before part s (step s t).next (room - length here)) (no_part (Tallied t))
+  part_step : part s (Some t) room
+      ≡ cond (fits_into here room) (here before part s (step s t).next (room - length here)) (no_part (Some t))
   unfolding part
   part_step = rw (rest_step s t)
 
-  pub part_line : length here ≤ room → part s (Tallied t) room ≡ here before part s (step s t).next (room - length here)
+  pub part_line : length here ≤ room → part s (Some t) room ≡ here before part s (step s t).next (room - length here)
   part_line h = part_step ∙ rw (le-leb (length here) room h)
 
-  pub part_none : room < length here → part s (Tallied t) room ≡ no_part (Tallied t)
+  pub part_none : room < length here → part s (Some t) room ≡ no_part (Some t)
   part_none h = part_step ∙ rw (lt-leb (length here) room h)
 
 -- ---- a part takes lines off what is still to come
@@ -117,8 +115,8 @@ record Splits (s : List ℕ) (ls : List Step) (q : Part) : Type 0 where
 
 after_first : (s : List ℕ) (p : Progress) (l : Step) (ls : List Step) → rest s p ≡ l ∷ ls → rest s l.next ≡ ls
 unfolding rest
-after_first s (Tallied t) l ls e = cc (rest_step s t)
-after_first s Over l ls e = absurd (omega (arith, ap length e))
+after_first s (Some t) l ls e = cc (rest_step s t)
+after_first s None l ls e = absurd (omega (arith, ap length e))
 
 none_splits : (s : List ℕ) (p : Progress) (ls : List Step) → rest s p ≡ ls → Splits s ls (no_part p)
 none_splits s p ls e = record { whole = ap joined e; fewer = omega (arith, ap length e) }
@@ -137,7 +135,7 @@ part_splits s room p (l ∷ ls) e =
 
 -- with room for a line fewer lines are left
 pub part_falls : (s : List ℕ) (t : Tally) (room : ℕ) → line_bytes ≤ room
-    → left s (part s (Tallied t) room).next < left s (Tallied t)
+    → left s (part s (Some t) room).next < left s (Some t)
 unfolding part
 part_falls s t room h =
     let l : Step = step s t in
@@ -154,7 +152,7 @@ module _ (s : List ℕ) (p : Progress) (buffer : List ℕ) (r : Filled) (after :
       let b : length after ≡ length (overlaid x buffer) = ap (λ (f : FilledBuffer). length f.buffer) h in
       omega (arith, length-append x (drop (length x) buffer))
 
-  pub fill_falls : {t : Tally} → p ≡ Tallied t → line_bytes ≤ length buffer → left s r.next < left s p
+  pub fill_falls : {t : Tally} → p ≡ Some t → line_bytes ≤ length buffer → left s r.next < left s p
   fill_falls {t} e g = rw (ap (λ (f : FilledBuffer). f.next) h, e) (part_falls s t (length buffer) g)
 
 -- ---- the parts for some buffers
@@ -168,13 +166,13 @@ parts_split s p (room ∷ rooms) =
     ∙ ap (λ (x : List ℕ). q.text ++ x) (parts_split s q.next rooms)
     ∙ (part_splits s room p (rest s p) refl).whole
 
-parts_end : (s : List ℕ) (p : Progress) (rooms : List ℕ) → Roomy rooms → left s p ≤ length rooms → (parts s p rooms).next ≡ Over
+parts_end : (s : List ℕ) (p : Progress) (rooms : List ℕ) → Roomy rooms → left s p ≤ length rooms → (parts s p rooms).next ≡ None
 unfolding parts rest
-parts_end s Over [] h g = refl
-parts_end s (Tallied t) [] h g = absurd (omega (arith, ap length (rest_step s t)))
-parts_end s Over (room ∷ rooms) h g = parts_end s Over rooms h.1 (omega arith)
-parts_end s (Tallied t) (room ∷ rooms) h g =
-    parts_end s (part s (Tallied t) room).next rooms h.1 (omega (arith, part_falls s t room h.0))
+parts_end s None [] h g = refl
+parts_end s (Some t) [] h g = absurd (omega (arith, ap length (rest_step s t)))
+parts_end s None (room ∷ rooms) h g = parts_end s None rooms h.1 (omega arith)
+parts_end s (Some t) (room ∷ rooms) h g =
+    parts_end s (part s (Some t) room).next rooms h.1 (omega (arith, part_falls s t room h.0))
 
 -- ---- all that comes after the start
 -- after the lines of i quotes, where k are left
@@ -200,12 +198,12 @@ start_whole s = go (size s)
 
 -- ---- THE WHOLE TEXT: parts in any buffers are the text once the last line is printed, and it is printed after as many buffers with room
 -- for a line as there are lines
-pub text_once_over : (s rooms : List ℕ) → (parts s start rooms).next ≡ Over → (parts s start rooms).text ≡ text s
+pub text_once_over : (s rooms : List ℕ) → (parts s start rooms).next ≡ None → (parts s start rooms).text ≡ text s
 unfolding rest
 text_once_over s rooms e =
-    let whole : (parts s start rooms).text ++ joined (rest s Over) ≡ joined (rest s start) = rw e at (parts_split s start rooms) in
+    let whole : (parts s start rooms).text ++ joined (rest s None) ≡ joined (rest s start) = rw e at (parts_split s start rooms) in
     sym (append-nil (parts s start rooms).text) ∙ whole ∙ start_whole s
 
 pub whole_text : (s rooms : List ℕ) → Roomy rooms → left s start ≤ length rooms
-    → ((parts s start rooms).text ≡ text s) × ((parts s start rooms).next ≡ Over)
+    → ((parts s start rooms).text ≡ text s) × ((parts s start rooms).next ≡ None)
 whole_text s rooms h g = (text_once_over s rooms (parts_end s start rooms h g), parts_end s start rooms h g)

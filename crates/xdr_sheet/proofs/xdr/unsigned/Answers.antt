@@ -1,16 +1,6 @@
--- `xdr::unsigned` meets its contract: the test is the definition's: a word where its bytes are all there, and 0 where not. Assumes nothing.
-use mathlib.Core.Path.{sym, ◌∙◌}
-use borrow.Author.Tests.{leb-true}
-use Rattle.xdr_sheet.specs.Xdr.{unsigned}
+-- `xdr::unsigned` meets its contract: a word where its bytes are all there, and 0 where not. Assumes nothing.
+use Rattle.xdr_sheet.proofs.Words.{unsigned_is}
 use Rattle.xdr_sheet.proofs.xdr.unsigned.Goals as goal
 
-pub word-requires : goal.word-requires
-word-requires c = leb-true _ _ (sym c.there.ensures ∙ c.if-there.true)
-
-pub returns-then-there : goal.returns-then-there
-unfolding unsigned
-returns-then-there c = rw (← c.there.ensures, c.if-there.true) c.word.ensures.0
-
 pub returns : goal.returns
-unfolding unsigned
-returns c = rw (← c.there.ensures, c.if-there.false)
+returns c = unsigned_is _ _ _ (rw c.bytes_at.ensures at c.map_or.ensures)

@@ -1,16 +1,11 @@
 -- How many digits a number takes. Assumes nothing.
 use mathlib.Core.Path.{◌≡◌, refl, sym, ap, ◌∙◌, subst}
-use mathlib.Core.List.{List, [], ◌∷◌, ◌++◌, append_assoc, append-nil}
-use Prim.Native.Nat.{ℕ, zero, suc, ◌+◌, ◌-◌, ◌*◌, ◌/◌, ◌^◌, ◌≤◌, ◌<◌}
-use native.Mathlib.Numerals.{add-one}
+use Prim.Native.Nat.{ℕ, zero, suc, ◌-◌, ◌*◌, ◌/◌, ◌^◌, ◌≤◌, ◌<◌}
 use native.Mathlib.Nat.{lt_of_lt_of_le, lt_of_not-le, not-le_of_lt, le_of_suc-le-suc, not-suc-le-zero, lt_irrefl, le_antisymm, le_trans}
 use native.Mathlib.Nat.{pow-suc, div-lt_iff_lt-mul, le-div_iff_mul-le, pow-le-pow_right}
 use native.Mathlib.Omega.{arith}
-use borrow.Author.Tests.{lt-leb, le-leb, ltb-true, ltb-false}
+use borrow.Author.Tests.{ltb-true, ltb-false}
 use lib.Dec.{ltb, lit<, lit≤}
-use lib.Ieee.{Float, binary64, to_bits}
-use lib.ListN.{length, take, drop, set, get_or, length-append}
-use lib.Seq.{take-suc-set, take-suc, take_all, length-take-le}
 use Rattle.arithmetic.specs.Laws.Choices.{by_test}
 use Rattle.io.specs.Digits.{last_digits, IsDigitCount}
 use Rattle.xdr_sheet.specs.Text.{places, decimal, hexadecimal}

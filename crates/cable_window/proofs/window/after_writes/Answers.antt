@@ -1,27 +1,11 @@
--- Invariant: what is left of the writes leads from this window to where all lead from zeros. Measure: how many offsets are left. Assumes nothing.
-use mathlib.Core.Path.{ap}
-use mathlib.Core.List.{List}
-use Prim.Native.Nat.{ℕ}
-use native.Mathlib.Omega.{arith}
-use Rattle.cable_window.specs.Window.{after_writes, writes}
-use Rattle.cable_window.proofs.Steps.{writes_turn, ends_offsets, ends_words}
+-- Invariant: what is left of the writes leads from this window to where all lead from zeros. Assumes nothing.
+use Rattle.std.proofs.lemmas.Slice.Zip.{Zip-more, either_empty_from_Zip}
+use Rattle.cable_window.proofs.Steps.{writes_turn, writes_end}
 use Rattle.cable_window.proofs.window.after_writes.Goals as goal
 
-pub loop-i-init : goal.loop-i-init
-loop-i-init c = let a = c.args in
-    (omega arith, ap (λ (s : List ℕ). after_writes s (writes a.offsets.now a.words.now)) c.zeros-window.ensures)
-
-pub returns-then-i-words : goal.returns-then-i-words
-returns-then-i-words c = let a = c.args in
-    ends_words a.offsets.now a.words.now c.loop-i.i c.loop-i.window.bytes c.if-i-words.true c.loop-i.invariant.1
-
-pub loop-i-preserved : goal.loop-i-preserved
-loop-i-preserved c = let a = c.args in (
-  omega arith,
-  writes_turn a.offsets.now a.words.now c.loop-i.i c.loop-i.window.bytes (omega arith) (omega arith) c.written-next.ensures.1
-      c.loop-i.invariant.1,
-)
+pub loop-offset-preserved : goal.loop-offset-preserved
+loop-offset-preserved c = let e = Zip-more c.loop-offset.offset-iterator c.next.new.self _ _ c.in-Some.is c.next.ensures.steps in
+    writes_turn c.loop-offset.window.bytes _ _ e.0 e.1 c.write.ensures.window c.loop-offset.invariant
 
 pub returns : goal.returns
-returns c = let a = c.args in
-    ends_offsets a.offsets.now a.words.now c.loop-i.i c.loop-i.window.bytes (omega arith) c.loop-i.invariant.1
+returns c = writes_end _ (either_empty_from_Zip c.loop-offset.offset-iterator c.next.new.self _ c.in-None.is c.next.ensures.steps) c.loop-offset.invariant

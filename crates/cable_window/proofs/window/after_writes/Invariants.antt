@@ -1,11 +1,7 @@
-use mathlib.Core.Path.{◌≡◌}
-use Prim.Native.Nat.{◌≤◌, ◌-◌}
-use lib.ListN.{length, drop}
+use Rattle.std.specs.Prelude.{◌≡◌}
 use Rattle.cable_window.specs.Window.{zeros, after_writes, writes}
 use Rattle.cable_window.proofs.window.after_writes.Given as goal
 
-abbrev pub invariant-loop-i : goal.invariant-loop-i
-invariant-loop-i l = (l.i ≤ length l.offsets) × (after_writes l.window.bytes (drop l.i (writes l.offsets l.words)) ≡ after_writes zeros (writes l.offsets l.words))
-
-abbrev pub decreases-loop-i : goal.decreases-loop-i
-decreases-loop-i l = length l.offsets - l.i
+abbrev pub invariant-loop-offset : goal.invariant-loop-offset
+invariant-loop-offset l =
+    after_writes l.window.bytes (writes l.offset-iterator.a.rest.now l.offset-iterator.b.rest.now) ≡ after_writes zeros (writes l.offsets l.words)

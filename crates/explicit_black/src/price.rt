@@ -53,8 +53,6 @@ fn price_of(terms: OptionTerms, s: f64) -> f64
 pub fn black_price(terms: OptionTerms, volatility: f64) -> PriceReply
     ensures { view_price_reply result ≡ black_price terms.side volatility terms.forward terms.strike terms.time }
 {
-    match price_refusal(terms, volatility) {
-        Ok(()) => Ok(price_of(terms, volatility * sqrt(terms.time))),
-        Err(refusal) => Err(Refused { refusal, count: 0 }),
-    }
+    price_refusal(terms, volatility)?;
+    Ok(price_of(terms, volatility * sqrt(terms.time)))
 }

@@ -177,10 +177,7 @@ pub fn implied_black_volatility_normalised(log_moneyness: f64, normalised_price:
     ensures { view_reply result ≡ implied_black_volatility_normalised log_moneyness normalised_price }
 {
     if !(is_finite(log_moneyness) && is_finite(normalised_price)) {
-        return Err(Refused {
-            refusal: Refusal::NotFinite,
-            count: 0,
-        });
+        return Err(Refusal::NotFinite.into());
     }
     // the answer is as at time 1, whose root is 1
     let allowed = Allowance::new(MAX_EVALUATIONS);

@@ -37,3 +37,12 @@ pub struct Refused {
     pub refusal: Refusal,
     pub count: u64,
 }
+
+// A refusal before any evaluation.
+impl From<Refusal> for Refused {
+    ghost from_gives = { λ refusal refused. (refused.refusal ≡ refusal) × (refused.count ≡ 0) };
+
+    fn from(refusal: Refusal) -> Refused {
+        Refused { refusal, count: 0 }
+    }
+}

@@ -1,11 +1,11 @@
-// The root of a place's strike, and the count of such roots.
+// The roots of the places' strikes, and how many were taken.
 ghost use Rattle.std.specs.Prelude.{◌≡◌, ◌+◌, ◌<◌};
 ghost use Rattle.arithmetic.specs.Sqrt.{sqrt};
 
 use arithmetic::sqrt::sqrt;
 
-// How many strike roots were taken. Its field is private, so that no other code makes one but by `none` and `strike_root`.
-#[derive(Clone, Copy)]
+// How many strike roots were taken. Its field is private, so that no other code makes one but by `none` and `take`.
+#[derive(Drop)]
 pub struct StrikeRoots {
     taken: u64,
 }
@@ -17,28 +17,18 @@ impl StrikeRoots {
         StrikeRoots { taken: 0 }
     }
 
-    pub(crate) fn taken(self) -> u64
-        ensures { result ≡ self.taken }
+    pub(crate) fn taken(&self) -> u64
+        ensures { result ≡ self.now.taken }
     {
         self.taken
     }
-}
 
-// A strike's root, and the count with it.
-#[derive(Drop)]
-pub struct StrikeRoot {
-    pub root: f64,
-    pub roots: StrikeRoots,
-}
-
-pub(crate) fn strike_root(strike: f64, roots: StrikeRoots) -> StrikeRoot
-    requires { roots.taken < 500 }
-    ensures { (result.root ≡ sqrt strike) × (result.roots.taken ≡ roots.taken + 1) }
-{
-    StrikeRoot {
-        root: sqrt(strike),
-        roots: StrikeRoots {
-            taken: roots.taken + 1,
-        },
+    // The root of a strike, which is counted.
+    pub(crate) fn take(&mut self, strike: f64) -> f64
+        requires { self.old.taken < 500 }
+        ensures { (result ≡ sqrt strike) × (self.new.taken ≡ self.old.taken + 1) }
+    {
+        self.taken += 1;
+        sqrt(strike)
     }
 }

@@ -1,14 +1,9 @@
 -- For the inner functions of src/place.rt; the entry's contract cites none of these. Definitions only.
-use Rattle.std.specs.Prelude.{◌≡◌, Float}
+use Rattle.std.specs.Prelude.{Float}
 use Rattle.arithmetic.specs.Operations.{◌⊗◌}
 use Rattle.arithmetic.specs.Sqrt.{sqrt}
 use Rattle.bs_option_price.specs.BsOptionPrice.{negative_abs_log_moneyness}
 use Rattle.explicit_black.specs.Quote.{Reply, reply, normalised_time_value, from_time_value}
-use Rattle.ladder.specs.declared.place.Shared.{Shared}
-
--- the roots are those of forward and time
-abbrev pub HasRoots : Shared → Type 0
-HasRoots s = (s.root_forward ≡ sqrt s.forward) × (s.root_time ≡ sqrt s.time)
 
 -- the reply where tests 1 to 6 decide nothing
 abbrev pub open_reply : Float → Float → Float → Float → Float → Reply

@@ -15,7 +15,7 @@ use Rattle.arithmetic.specs.Laws.Compare.{lt_is_not_le}
 use Rattle.arithmetic.specs.Laws.Slices.{zip_length, zip_at}
 use Rattle.bs_option_price.specs.BsOptionPrice.{negative_abs_log_moneyness}
 use Rattle.inverse_gaussian.specs.Counted.{some, none, or_else}
-use Rattle.explicit_black.specs.Quote.{Outcome, total, Reply, answer, refusal, volatility_over, reply_of, reply_over}
+use Rattle.explicit_black.specs.Quote.{Outcome, total, refused, Reply, answer, refusal, volatility_over, reply_of, reply_over}
 use Rattle.explicit_black.specs.Quote.{first_refusal, intrinsic_value, price_bound, bound_tests}
 use Rattle.explicit_black.specs.Quote.{normalised_time_value, from_time_value, from_price, from_quote, implied_black_volatility_input}
 use Rattle.explicit_black.specs.Laws.Quote.{passed}
@@ -60,6 +60,9 @@ module _ (side : ℕ) (p f k t : Float) where
     pub decided_reply : (o : Outcome) → some o ≡ bound_tests p intrinsic bound t → reply_of t (sqrt t) o 0 ≡ implied_black_volatility_input side p f k t
     unfolding implied_black_volatility_input from_quote from_price or_else
     decided_reply o h = rw (e, ← h)
+
+    pub decided_refusal : (n : ℕ) → some (refused n) ≡ bound_tests p intrinsic bound t → refusal n 0 ≡ implied_black_volatility_input side p f k t
+    decided_refusal n = decided_reply (refused n)
 
     pub decided_total : (v w rt : Float) → rt ≡ sqrt t → w ≡ volatility_over t rt v → some (total v) ≡ bound_tests p intrinsic bound t
         → answer v w 0 ≡ implied_black_volatility_input side p f k t

@@ -1,10 +1,5 @@
-use Prim.Native.Nat.{◌-◌}
-use lib.ListN.{length}
 use Rattle.ladder.proofs.Places.{Sofar}
 use Rattle.ladder.proofs.ladder.solve_places.Given as goal
 
 abbrev pub invariant-loop-i : goal.invariant-loop-i
-invariant-loop-i l = Sofar l.side l.forward l.time l.strikes l.prices l.initial.totals l.initial.volatilities l.initial.counts l.initial.refusals l.i l.roots.taken l.totals l.volatilities l.counts l.refusals
-
-abbrev pub decreases-loop-i : goal.decreases-loop-i
-decreases-loop-i l = length l.strikes - l.i
+invariant-loop-i l = Sofar l.shared.side l.shared.forward l.shared.time l.strikes l.prices l.initial.totals l.initial.volatilities l.initial.counts l.initial.refusals l.i l.roots.taken l.totals l.volatilities l.counts l.refusals

@@ -1,5 +1,5 @@
 // A ladder's reply and the four lent slices as lines of text.
-use ladder::ladder::LadderReply;
+use explicit_black::refusal::Refused;
 use records::bits::Bits;
 use std::fmt::{Display, Formatter, Write};
 use std::{fmt, io};
@@ -35,10 +35,10 @@ impl Places<'_> {
 }
 
 // Writes `L` and how many strike roots were taken, or `R` with the number and count of a refusal.
-pub fn write_reply(rt: &impl Print, reply: LadderReply) -> io::Result<()> {
+pub fn write_reply(rt: &impl Print, reply: Result<u64, Refused>) -> io::Result<()> {
     match reply {
-        LadderReply::Solved { roots } => println!(rt; "L {roots}"),
-        LadderReply::Refusal { number, count } => println!(rt; "R {number} {count}"),
+        Ok(roots) => println!(rt; "L {roots}"),
+        Err(refused) => println!(rt; "R {} {}", refused.refusal.number(), refused.count),
     }
 }
 

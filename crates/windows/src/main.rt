@@ -7,7 +7,7 @@
 
 mod text;
 
-use cable_window::window::{Window, after_writes, written};
+use cable_window::window::{Window, after_writes};
 use records::read_record;
 use std::io;
 use std::io::Read;
@@ -26,9 +26,9 @@ const WRITE_BYTES: usize = 8;
 fn answer_writes(rt: &impl Print, offsets: &[u32], words: &[u32]) -> io::Result<()> {
     let mut window = Window::zeros();
     for (offset, word) in offsets.iter().zip(words) {
-        let reply = written(window, *offset, *word);
-        window = reply.window;
-        println!(rt; "{}{}", reply.number, Words(window))?;
+        let written = window.write(*offset, *word);
+        let number = written.err().map_or(0, |refusal| refusal.number());
+        println!(rt; "{number}{}", Words(window))?;
     }
     println!(rt; "W{}", Words(after_writes(offsets, words)))
 }

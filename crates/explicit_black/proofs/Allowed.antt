@@ -5,14 +5,24 @@ use native.Mathlib.Omega.{arith}
 use lib.Ieee.{Float, of_bits}
 use Rattle.arithmetic.specs.Operations.{one}
 use Rattle.arithmetic.specs.Sqrt.{sqrt}
-use Rattle.inverse_gaussian.specs.Counted.{Option, Counted, Metered, have, mapped, limited}
-use Rattle.inverse_gaussian.specs.Laws.Counted.{limited_enough, taken_off, limited_mapped}
+use Rattle.inverse_gaussian.specs.Counted.{Option, Counted, Metered, have, spent, mapped, limited}
+use Rattle.inverse_gaussian.specs.Laws.Counted.{limited_now, limited_enough, taken_off, limited_mapped}
 use Rattle.explicit_black.specs.Quote.{Outcome, total, refused, answer, refusal, volatility_over, reply_over, searched, total_at}
 use Rattle.explicit_black.specs.Internal.Quote.{LeftWithin}
 
 -- the outcome of a search, from what the search itself gives where n are allowed
 pub limited_searched : (n : ℕ) (c : Counted (Option Float)) → limited n (searched c) ≡ mapped total_at (limited n c)
 limited_searched n c = limited_mapped total_at n c
+
+pub searched_have : (n m : ℕ) (r : Option Float) (o : Outcome) (c : Counted (Option Float)) → have r m ≡ limited n c → o ≡ total_at r
+    → have o m ≡ limited n (searched c)
+searched_have n m r o c e h = rw (limited_searched n c, ← e, h)
+
+pub searched_spent : (n : ℕ) (c : Counted (Option Float)) → spent ≡ limited n c → spent ≡ limited n (searched c)
+searched_spent n c e = rw (limited_searched n c, ← e)
+
+-- what the check tries where a quote is solved
+pub ruleset solves = (limited_now, searched_spent)
 
 -- where as many are allowed as are made, they are not spent, and no more are left than were allowed
 pub enough_within : (n : ℕ) (m : Metered Outcome) (c : Counted Outcome) → m ≡ limited n c → c.count ≤ n → LeftWithin n m

@@ -1,11 +1,11 @@
 // The quote entry: the price is divided by a discount factor, and solved as the source solves a price that is not discounted.
-ghost use Rattle.std.specs.Prelude.{◌≡◌};
+ghost use Rattle.std.specs.Prelude.{◌≡◌, IsErrOf};
 ghost use Rattle.inverse_gaussian.specs.Counted.{limited};
 ghost use Rattle.explicit_black.specs.Discount.{discounted_refusal, from_discounted_quote, implied_black_volatility_discounted};
 ghost use Rattle.explicit_black.specs.Internal.Quote.{view_refusal, view_solved};
 ghost use Rattle.explicit_black.specs.Replies.{view_reply};
 
-use crate::quote::{MAX_EVALUATIONS, Reply, Solved, from_figures};
+use crate::quote::{MAX_EVALUATIONS, Reply, Unsolved, from_figures, reply};
 use crate::refusal::Refusal;
 use crate::terms::OptionTerms;
 use arithmetic::basic::is_finite;
@@ -13,16 +13,15 @@ use arithmetic::sqrt::sqrt;
 use inverse_gaussian::curves::Allowance;
 
 // The first of tests 1 to 4 and 15 that applies. Test 2 includes the factor.
-#[tactic(auto, using(crate::specs::Laws::Discount::factor_not_finite, crate::specs::Laws::Discount::factor_tested_last, crate::specs::Laws::Quote::no_side, crate::specs::Laws::Quote::a_side))]
+#[tactic(auto, using(crate::proofs::Tests::discounted_tests))]
 fn discounted_refusal(terms: OptionTerms, price: f64, factor: f64) -> Result<(), Refusal>
     ensures { view_refusal result ≡ discounted_refusal terms.side price terms.forward terms.strike terms.time factor }
 {
     if !is_finite(factor) {
-        return if terms.side > 1 {
-            Err(Refusal::UnknownSide)
-        } else {
-            Err(Refusal::NotFinite)
-        };
+        if terms.side > 1 {
+            return Err(Refusal::UnknownSide);
+        }
+        return Err(Refusal::NotFinite);
     }
     terms.first_refusal(price)?;
     if !(factor > 0.0) {
@@ -32,27 +31,26 @@ fn discounted_refusal(terms: OptionTerms, price: f64, factor: f64) -> Result<(),
 }
 
 // Solves from the figures of a quote: tests 1 to 4 and 15, and those of the price divided by the factor.
-#[tactic(auto, using(inverse_gaussian::specs::Laws::Counted::limited_now), unfolding(crate::specs::Discount::from_discounted_quote))]
+#[tactic(auto, using(crate::proofs::Allowed::solves), unfolding(crate::specs::Discount::from_discounted_quote))]
 pub fn from_discounted_quote(
     terms: OptionTerms,
     price: f64,
     factor: f64,
-    allowed: Allowance,
-) -> Solved
-    ensures { view_solved result ≡ limited allowed.left
+    allowed: &mut Allowance,
+) -> Result<f64, Unsolved>
+    ensures metered { view_solved result allowed.new.left ≡ limited allowed.old.left
         (from_discounted_quote terms.side price terms.forward terms.strike terms.time factor) }
+    ensures spent { IsErrOf result Unsolved.Spent → allowed.new.left ≡ 0 }
 {
-    match discounted_refusal(terms, price, factor) {
-        Ok(()) => from_figures(terms, price / factor, allowed),
-        Err(refusal) => Solved::Refused(refusal, allowed),
-    }
+    discounted_refusal(terms, price, factor)?;
+    from_figures(terms, price / factor, allowed)
 }
 
 #[tactic(auto, unfolding(crate::specs::Discount::implied_black_volatility_discounted))]
 pub fn implied_black_volatility_discounted(terms: OptionTerms, price: f64, factor: f64) -> Reply
     ensures { view_reply result ≡ implied_black_volatility_discounted terms.side price terms.forward terms.strike terms.time factor }
 {
-    let allowed = Allowance::new(MAX_EVALUATIONS);
-    let solved = from_discounted_quote(terms, price, factor, allowed);
-    solved.reply(MAX_EVALUATIONS, terms.time, sqrt(terms.time))
+    let mut allowed = Allowance::new(MAX_EVALUATIONS);
+    let solved = from_discounted_quote(terms, price, factor, &mut allowed);
+    reply(solved, &allowed, terms.time, sqrt(terms.time))
 }

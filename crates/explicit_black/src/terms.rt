@@ -17,7 +17,7 @@ pub struct OptionTerms {
 
 impl OptionTerms {
     // The first of tests 1 to 4 that applies. The figure is the price, or the volatility.
-    #[tactic(auto, using(crate::specs::Laws::Quote::no_side, crate::specs::Laws::Quote::a_side), unfolding(crate::specs::Quote::first_refusal))]
+    #[tactic(auto, using(crate::proofs::Tests::sides), unfolding(crate::specs::Quote::first_refusal))]
     pub fn first_refusal(self, figure: f64) -> Result<(), Refusal>
         ensures { view_refusal result ≡ first_refusal self.side figure self.forward self.strike self.time }
     {

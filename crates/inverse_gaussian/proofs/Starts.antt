@@ -11,8 +11,8 @@ use Rattle.inverse_gaussian.specs.Curves.{finite_positive, inverse_gaussian_quan
 use Rattle.inverse_gaussian.specs.Bracket.{doubled_from, doubling_loop, doublings, halved, halving_loop, halvings}
 use Rattle.inverse_gaussian.specs.Survival.{capped_from, survival_doubling_loop, survival_halving_loop}
 use Rattle.inverse_gaussian.specs.Laws.Roots.{guess_fits}
-use Rattle.inverse_gaussian.proofs.DoublingEnds.{ends_below, survival_ends_below}
-use Rattle.inverse_gaussian.proofs.HalvingEnds.{ends_above, survival_ends_above}
+use Rattle.inverse_gaussian.specs.Laws.DoublingEnds.{ends_below, survival_ends_below}
+use Rattle.inverse_gaussian.specs.Laws.HalvingEnds.{ends_above, survival_ends_above}
 use Rattle.inverse_gaussian.proofs.Searches.{start_finite_positive}
 
 -- where `inverse_gaussian_quantile_bracketed` and `inverse_gaussian_quantile_from_survival` start

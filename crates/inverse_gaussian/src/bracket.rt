@@ -1,17 +1,14 @@
-// The bracket of a root, how it is found from a starting point, and how it is narrowed.
-ghost use Rattle.std.specs.Prelude.{◌≡◌, true};
-ghost use Rattle.inverse_gaussian.specs.Counted.{limited, some_of};
-ghost use Rattle.inverse_gaussian.specs.Internal.Searches.{view_reach, view_widening};
-ghost use Rattle.inverse_gaussian.specs.Curves.{finite_positive};
-ghost use Rattle.inverse_gaussian.specs.Bracket.{doubled, doubled_from, widened, bracket_quantile_from_below, halved, lowered, bracket_quantile_from_above};
-ghost use Rattle.inverse_gaussian.specs.Bracket.{bracket_midpoint, bracket_is_tight, narrowed, inside, chosen};
+// The bracket of a root, and how it is narrowed.
+ghost use Rattle.std.specs.Prelude.{◌≡◌};
+ghost use Rattle.inverse_gaussian.specs.Internal.Searches.{view_flow};
+ghost use Rattle.inverse_gaussian.specs.Bracket.{halved, bracket_midpoint, bracket_is_tight, narrowed, inside, chosen};
+ghost use Rattle.inverse_gaussian.specs.Quantile.{floor, raised, clamped};
 
-use crate::counted::Reach;
-use crate::curves::{Allowance, Evaluation, inverse_gaussian_cdf};
 use arithmetic::basic::is_finite;
-use arithmetic::constants::{MAX, MIN_POSITIVE};
+use arithmetic::constants::MIN_POSITIVE;
 use arithmetic::exp::exp;
 use arithmetic::ln::ln;
+use std::ops::ControlFlow;
 
 // 32 times f64::EPSILON
 pub(crate) const QUANTILE_BRACKET_TOLERANCE: f64 = 7.105427357601002e-15;
@@ -22,76 +19,22 @@ pub struct Bracket {
     pub upper: f64,
 }
 
-// What the search for a bracket makes of the value at the bound that it moves: the bracket is found, or the next
-// one is to be evaluated.
-#[derive(Drop)]
-pub enum Widening {
-    Reached(Bracket),
-    Wider(Bracket),
-}
-
-// Twice x, or the largest finite value where that is not finite.
-fn doubled(x: f64) -> f64
-    ensures { result ≡ doubled x }
-{
-    let next = x * 2.0;
-    if is_finite(next) { next } else { MAX }
-}
-
 impl Bracket {
-    // The bracket from x to its double.
-    pub fn doubled_from(x: f64) -> Bracket
-        ensures { result ≡ doubled_from x }
+    // The bracket from half of x, whose lower bound is evaluated next; where that half is at most the smallest normal
+    // value from 0, which needs no evaluation.
+    #[tactic(auto, unfolding(crate::specs::Bracket::halved))]
+    pub fn halved(x: f64, upper: f64) -> ControlFlow<Bracket, Bracket>
+        ensures { view_flow (λ b. b) result ≡ halved x upper }
     {
-        Bracket {
-            lower: x,
-            upper: doubled(x),
+        let lower = x * 0.5;
+        if lower <= MIN_POSITIVE {
+            return ControlFlow::Break(Bracket { lower: 0.0, upper });
         }
-    }
-
-    // The bracket is found where `cdf`, the distribution at its upper bound, reaches the probability, or no finite
-    // value is above that bound.
-    pub fn widened(self, cdf: f64, probability: f64) -> Widening
-        ensures { view_widening result ≡ widened probability self cdf }
-    {
-        if cdf >= probability {
-            return Widening::Reached(self);
-        }
-        if self.upper == MAX {
-            return Widening::Reached(self);
-        }
-        Widening::Wider(Bracket::doubled_from(self.upper))
-    }
-
-    // The bracket from half of x; where that half is at most the smallest normal value from 0, which needs no
-    // evaluation.
-    pub fn halved(x: f64, upper: f64) -> Widening
-        ensures { view_widening result ≡ halved x upper }
-    {
-        let next = x * 0.5;
-        if next <= MIN_POSITIVE {
-            return Widening::Reached(Bracket {
-                lower: 0.0,
-                upper: upper,
-            });
-        }
-        Widening::Wider(Bracket {
-            lower: next,
-            upper: upper,
-        })
-    }
-
-    // The bracket is found where `cdf`, the distribution at its lower bound, is at most the probability.
-    pub fn lowered(self, cdf: f64, probability: f64) -> Widening
-        ensures { view_widening result ≡ lowered probability self cdf }
-    {
-        if cdf <= probability {
-            return Widening::Reached(self);
-        }
-        Bracket::halved(self.lower, self.lower * 2.0)
+        ControlFlow::Continue(Bracket { lower, upper })
     }
 
     // The bound on the side of x away from the root is moved to x.
+    #[tactic(auto, unfolding(crate::specs::Bracket::narrowed))]
     pub fn narrowed(self, x: f64, root_is_above: bool) -> Bracket
         ensures { result ≡ narrowed self x root_is_above }
     {
@@ -112,18 +55,11 @@ impl Bracket {
     fn holds(self, x: f64) -> bool
         ensures { result ≡ inside self x }
     {
-        if is_finite(x) {
-            if x > self.lower {
-                x < self.upper
-            } else {
-                false
-            }
-        } else {
-            false
-        }
+        is_finite(x) && x > self.lower && x < self.upper
     }
 
     // The point of a Newton step if the bracket holds it, and else the midpoint.
+    #[tactic(auto, unfolding(crate::specs::Bracket::chosen))]
     pub fn chosen(self, next: f64) -> f64
         ensures { result ≡ chosen self next }
     {
@@ -133,73 +69,41 @@ impl Bracket {
             bracket_midpoint(self)
         }
     }
-}
 
-// Doubles from `initial`, where the distribution is below the probability, until it no longer is.
-pub(crate) fn bracket_quantile_from_below(
-    initial: f64,
-    mu: f64,
-    probability: f64,
-    allowed: Allowance,
-) -> Reach
-    requires { finite_positive initial ≡ true }
-    ensures { view_reach result ≡ limited allowed.left (some_of (bracket_quantile_from_below initial mu probability)) }
-{
-    let mut bracket = Bracket::doubled_from(initial);
-    let mut left = allowed;
-    loop {
-        match inverse_gaussian_cdf(bracket.upper, mu, left) {
-            Evaluation::Spent => return Reach::Spent,
-            Evaluation::Value {
-                cdf,
-                sqrt_x: _,
-                a: _,
-                exponential: _,
-                rest,
-            } => {
-                left = rest;
-                match bracket.widened(cdf, probability) {
-                    Widening::Reached(b) => return Reach::Found(b, left),
-                    Widening::Wider(b) => bracket = b,
-                }
-            }
+    // The lower bound, or the smallest normal value where that is 0.
+    fn floor(self) -> f64
+        ensures { result ≡ floor self }
+    {
+        if self.lower > 0.0 {
+            self.lower
+        } else {
+            MIN_POSITIVE
         }
     }
-}
 
-// Halves from `initial`, where the distribution is not below the probability, until it is not above.
-pub(crate) fn bracket_quantile_from_above(
-    initial: f64,
-    mu: f64,
-    probability: f64,
-    allowed: Allowance,
-) -> Reach
-    requires { finite_positive initial ≡ true }
-    ensures { view_reach result ≡ limited allowed.left (some_of (bracket_quantile_from_above initial mu probability)) }
-{
-    let mut trial = Bracket::halved(initial, initial);
-    let mut left = allowed;
-    loop {
-        match trial {
-            Widening::Reached(b) => return Reach::Found(b, left),
-            Widening::Wider(b) => match inverse_gaussian_cdf(b.lower, mu, left) {
-                Evaluation::Spent => return Reach::Spent,
-                Evaluation::Value {
-                    cdf,
-                    sqrt_x: _,
-                    a: _,
-                    exponential: _,
-                    rest,
-                } => {
-                    left = rest;
-                    trial = b.lowered(cdf, probability);
-                }
-            },
+    fn raised(self, x: f64) -> f64
+        ensures { result ≡ raised self x }
+    {
+        let floor = self.floor();
+        if x < floor { floor } else { x }
+    }
+
+    // x brought into the bracket: the lower bound is applied, then the upper.
+    #[tactic(auto, unfolding(crate::specs::Quantile::clamped))]
+    pub fn clamped(self, x: f64) -> f64
+        ensures { result ≡ clamped self x }
+    {
+        let raised = self.raised(x);
+        if raised > self.upper {
+            self.upper
+        } else {
+            raised
         }
     }
 }
 
 // The geometric mean, or half of the upper bound where the lower is 0.
+#[tactic(auto, unfolding(crate::specs::Bracket::bracket_midpoint))]
 pub fn bracket_midpoint(bracket: Bracket) -> f64
     ensures { result ≡ bracket_midpoint bracket }
 {
@@ -209,6 +113,7 @@ pub fn bracket_midpoint(bracket: Bracket) -> f64
     exp(0.5 * (ln(bracket.lower) + ln(bracket.upper)))
 }
 
+#[tactic(auto, unfolding(crate::specs::Bracket::bracket_is_tight))]
 pub fn bracket_is_tight(bracket: Bracket) -> bool
     ensures { result ≡ bracket_is_tight bracket }
 {

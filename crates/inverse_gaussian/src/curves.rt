@@ -1,9 +1,9 @@
 // The curves of the inverse Gaussian distribution with mean mu. A call of either is an evaluation: it takes one off the
 // number allowed, whose field no other module can write to.
-ghost use Rattle.std.specs.Prelude.{◌≡◌, ◌-◌, ◌<◌};
-ghost use Rattle.inverse_gaussian.specs.Counted.{limited};
+ghost use Rattle.std.specs.Prelude.{◌≡◌, OnErr};
+ghost use Rattle.inverse_gaussian.specs.Counted.{limited, at_once, tick};
 ghost use Rattle.inverse_gaussian.specs.Internal.Contracts.{evaluated};
-ghost use Rattle.inverse_gaussian.specs.Internal.Searches.{pdf_from, pdf_by_exponential, view_evaluation, view_survival_evaluation};
+ghost use Rattle.inverse_gaussian.specs.Internal.Searches.{metered, pdf_from, pdf_by_exponential, view_evaluation, view_survival_evaluation};
 ghost use Rattle.inverse_gaussian.specs.Curves.{inverse_gaussian_survival, inverse_gaussian_cdf};
 
 use arithmetic::basic::recip;
@@ -20,97 +20,93 @@ pub struct Allowance {
     left: u64,
 }
 
+// One evaluation more is needed than is allowed.
+#[derive(Clone, Copy, Debug, PartialEq, Eq)]
+pub struct Spent;
+
 impl Allowance {
     pub fn new(left: u64) -> Allowance
         ensures { result.left ≡ left }
     {
-        Allowance { left: left }
+        Allowance { left }
     }
 
-    pub fn left(self) -> u64
-        ensures { result ≡ self.left }
+    pub fn left(&self) -> u64
+        ensures { result ≡ self.now.left }
     {
         self.left
     }
 
-    // One evaluation fewer.
-    fn lowered(self) -> Allowance
-        requires { 0 < self.left }
-        ensures { result.left ≡ self.left - 1 }
+    // Takes one evaluation off.
+    fn take(&mut self) -> Result<(), Spent>
+        ensures metered { metered (λ x. x) result self.new.left ≡ limited self.old.left (tick (at_once tt)) }
+        ensures spent { OnErr result (self.new.left ≡ 0) }
     {
-        Allowance {
-            left: self.left - 1,
+        if self.left == 0 {
+            return Err(Spent);
         }
+        self.left -= 1;
+        Ok(())
     }
 }
 
-// A value of the distribution, with what `pdf_by_exponential` makes the density at the same point of, and one evaluation
-// fewer; or spent where none was allowed.
-#[derive(Drop)]
-pub enum Evaluation {
-    Value {
-        cdf: f64,
-        sqrt_x: f64,
-        a: f64,
-        exponential: f64,
-        rest: Allowance,
-    },
-    Spent,
+// A value of the distribution, with what `pdf_by_exponential` makes the density at the same point of.
+#[derive(Clone, Copy)]
+pub struct Evaluation {
+    pub value: f64,
+    pub sqrt_x: f64,
+    pub a: f64,
+    pub exponential: f64,
 }
 
-// A value of the survival probability, with what the density at the same point needs, √x and a, and one evaluation
-// fewer; or spent where none was allowed.
-#[derive(Drop)]
-pub enum SurvivalEvaluation {
-    Value {
-        survival: f64,
-        sqrt_x: f64,
-        a: f64,
-        rest: Allowance,
-    },
-    Spent,
+// A value of the survival probability, with what `inverse_gaussian_pdf` makes the density at the same point of.
+#[derive(Clone, Copy)]
+pub struct SurvivalEvaluation {
+    pub value: f64,
+    pub sqrt_x: f64,
+    pub a: f64,
 }
 
-pub fn inverse_gaussian_survival(x: f64, mu: f64, allowed: Allowance) -> SurvivalEvaluation
-    ensures { view_survival_evaluation x result ≡ limited allowed.left (evaluated inverse_gaussian_survival x mu) }
+pub fn inverse_gaussian_survival(
+    x: f64,
+    mu: f64,
+    allowed: &mut Allowance,
+) -> Result<SurvivalEvaluation, Spent>
+    ensures metered { metered (view_survival_evaluation x) result allowed.new.left ≡ limited allowed.old.left (evaluated inverse_gaussian_survival x mu) }
+    ensures spent { OnErr result (allowed.new.left ≡ 0) }
 {
-    if allowed.left == 0 {
-        return SurvivalEvaluation::Spent;
-    }
+    allowed.take()?;
     let sqrt_x = sqrt(x);
     let inv_sqrt_x = recip(sqrt_x);
     let leading = sqrt_x / mu;
     let exponent = -recip(mu);
     // the Black price at these figures is the survival probability times exp(-1 / mu)
     let black = normalised_black(exponent, -leading, inv_sqrt_x);
-    SurvivalEvaluation::Value {
-        survival: black / exp(exponent),
-        sqrt_x: sqrt_x,
+    Ok(SurvivalEvaluation {
+        value: black / exp(exponent),
+        sqrt_x,
         a: leading - inv_sqrt_x,
-        rest: allowed.lowered(),
-    }
+    })
 }
 
-pub fn inverse_gaussian_cdf(x: f64, mu: f64, allowed: Allowance) -> Evaluation
-    ensures { view_evaluation x result ≡ limited allowed.left (evaluated inverse_gaussian_cdf x mu) }
+pub fn inverse_gaussian_cdf(x: f64, mu: f64, allowed: &mut Allowance) -> Result<Evaluation, Spent>
+    ensures metered { metered (view_evaluation x) result allowed.new.left ≡ limited allowed.old.left (evaluated inverse_gaussian_cdf x mu) }
+    ensures spent { OnErr result (allowed.new.left ≡ 0) }
 {
-    if allowed.left == 0 {
-        return Evaluation::Spent;
-    }
+    allowed.take()?;
     let sqrt_x = sqrt(x);
     let inv_sqrt_x = recip(sqrt_x);
     let leading = sqrt_x / mu;
     let a = leading - inv_sqrt_x;
     let reflected = leading + inv_sqrt_x;
     let exponential = exp(-0.5 * a * a);
-    let cdf = norm_cdf(a) + 0.5 * exponential * erfcx_cody(reflected * FRAC_1_SQRT_2);
-    Evaluation::Value {
-        cdf: cdf,
-        sqrt_x: sqrt_x,
-        a: a,
-        exponential: exponential,
-        rest: allowed.lowered(),
-    }
+    let value = norm_cdf(a) + 0.5 * exponential * erfcx_cody(reflected * FRAC_1_SQRT_2);
+    Ok(Evaluation {
+        value,
+        sqrt_x,
+        a,
+        exponential,
+    })
 }
 
 // The density at x, where a is √x / mu - 1 / √x.

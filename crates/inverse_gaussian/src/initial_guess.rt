@@ -12,9 +12,10 @@ use special_function::normal_distribution::inverse_norm_cdf;
 pub fn is_finite_positive(x: f64) -> bool
     ensures { result ≡ finite_positive x }
 {
-    if x > 0.0 { x <= MAX } else { false }
+    x > 0.0 && x <= MAX
 }
 
+#[tactic(auto, unfolding(crate::specs::Curves::inverse_gaussian_quantile_initial_guess))]
 pub fn inverse_gaussian_quantile_initial_guess(probability: f64, mu: f64) -> f64
     ensures { result ≡ inverse_gaussian_quantile_initial_guess probability mu }
 {
@@ -22,6 +23,7 @@ pub fn inverse_gaussian_quantile_initial_guess(probability: f64, mu: f64) -> f64
     inverse_gaussian_quantile_initial_guess_from_z(z, mu)
 }
 
+#[tactic(auto, unfolding(crate::specs::Curves::inverse_gaussian_quantile_initial_guess_from_z))]
 pub fn inverse_gaussian_quantile_initial_guess_from_z(z: f64, mu: f64) -> f64
     ensures { result ≡ inverse_gaussian_quantile_initial_guess_from_z z mu }
 {
@@ -35,6 +37,7 @@ pub fn inverse_gaussian_quantile_initial_guess_from_z(z: f64, mu: f64) -> f64
 }
 
 // The guess, or mu where that is not finite and above 0.
+#[tactic(auto, unfolding(crate::specs::Curves::starting_point))]
 pub fn starting_point(guess: f64, mu: f64) -> f64
     ensures { result ≡ starting_point guess mu }
 {

@@ -2,9 +2,9 @@
 #![tactic(auto)]
 
 pub mod bracket;
-pub mod counted;
 pub mod curves;
 pub mod initial_guess;
 pub mod newton;
 pub mod quantile;
+pub mod search;
 pub mod survival;

@@ -1,19 +1,20 @@
 // The quantile by Newton steps on the standardised variable x / mu.
-ghost use Rattle.std.specs.Prelude.{◌≡◌};
-ghost use Rattle.inverse_gaussian.specs.Counted.{limited, have};
-ghost use Rattle.inverse_gaussian.specs.Internal.Searches.{view_newton, view_stepped, view_quantile};
+ghost use Rattle.std.specs.Prelude.{◌≡◌, OnErr};
+ghost use Rattle.inverse_gaussian.specs.Counted.{limited, at_once, tick};
+ghost use Rattle.inverse_gaussian.specs.Internal.Searches.{metered, view_option, view_flow, step_at};
 ghost use Rattle.inverse_gaussian.specs.Newton.{seed, initial_x, numerator, nrstep, converged, after_move, first, later, last, steps};
 ghost use Rattle.inverse_gaussian.specs.Newton.{inverse_gaussian_mode_standardized, inverse_gaussian_quantile_actuar};
 
-use crate::counted::Quantile;
-use crate::curves::{Allowance, Evaluation, inverse_gaussian_cdf, pdf_by_exponential};
+use crate::curves::{Allowance, Spent, inverse_gaussian_cdf};
 use crate::initial_guess::{inverse_gaussian_quantile_initial_guess, is_finite_positive};
+use crate::search::Curve;
 use arithmetic::basic::{abs, max, recip, signum};
 use arithmetic::constants::MIN_POSITIVE;
 use arithmetic::exp::exp;
 use arithmetic::ln::{ln, plus_ln_1p};
 use arithmetic::sqrt::sqrt;
 use special_function::normal_distribution::inverse_norm_cdf;
+use std::ops::ControlFlow;
 
 const ACTUAR_RELATIVE_QUANTILE_TOLERANCE: f64 = 1.0e-14;
 
@@ -23,23 +24,12 @@ const LEFT_SMALL_PROBABILITY_LOG_THRESHOLD: f64 = -11.51;
 
 const RIGHT_SMALL_PROBABILITY_LOG_THRESHOLD: f64 = -1.0e-5;
 
-// A Newton step: a move, perhaps infinite, or the refusal to move where the density cannot be divided by.
-#[derive(Drop)]
-pub enum Newton {
-    Move(f64),
-    Refused,
-}
-
 // After a step: the root; none, where the step was refused or left the values that are finite and above 0;
 // or the point of the next step, with the direction of the first move.
-#[derive(Drop)]
-pub enum Stepped {
-    Root(f64),
-    None,
-    Again(f64, f64),
-}
+pub type Stepped = ControlFlow<Option<f64>, (f64, f64)>;
 
 // The mode; in the far left tail and in the far right one a guess for that tail.
+#[tactic(auto, unfolding(crate::specs::Newton::seed))]
 fn seed(probability: f64, log_probability: f64, mu: f64) -> f64
     ensures { result ≡ seed probability log_probability mu }
 {
@@ -59,6 +49,7 @@ fn seed(probability: f64, log_probability: f64, mu: f64) -> f64
 
 // Where the steps start: the seed; where that is not finite and above 0 the mode, or the smallest normal value
 // if that is larger.
+#[tactic(auto, unfolding(crate::specs::Newton::initial_x))]
 fn initial_x(probability: f64, log_probability: f64, mu: f64) -> f64
     ensures { result ≡ initial_x probability log_probability mu }
 {
@@ -70,6 +61,7 @@ fn initial_x(probability: f64, log_probability: f64, mu: f64) -> f64
 }
 
 // A relative tolerance: an absolute one would accept a first step far from a small root.
+#[tactic(auto, unfolding(crate::specs::Newton::converged))]
 fn is_converged(dx: f64, x: f64) -> bool
     ensures { result ≡ converged dx x }
 {
@@ -77,55 +69,51 @@ fn is_converged(dx: f64, x: f64) -> bool
 }
 
 // x is the point after the move dx: no root where it is not finite and above 0, the root where the move was small.
+#[tactic(auto, unfolding(crate::specs::Newton::after_move))]
 fn after_move(x: f64, dx: f64, direction: f64, mu: f64) -> Stepped
-    ensures { view_stepped result ≡ after_move mu x dx direction }
+    ensures { view_flow view_option result ≡ after_move mu x dx direction }
 {
     if is_finite_positive(x) {
         if is_converged(dx, x) {
-            return Stepped::Root(x * mu);
+            return ControlFlow::Break(Some(x * mu));
         }
-        return Stepped::Again(x, direction);
+        return ControlFlow::Continue((x, direction));
     }
-    Stepped::None
+    ControlFlow::Break(None)
 }
 
-impl Newton {
-    // The first step, made at x, whose sign the later ones keep.
-    pub fn first(self, x: f64, mu: f64) -> Stepped
-        ensures { view_stepped result ≡ first mu x (view_newton self) }
-    {
-        match self {
-            Newton::Move(dx) => after_move(x + dx, dx, signum(dx), mu),
-            Newton::Refused => Stepped::None,
-        }
-    }
-
-    // A later step, made at x: one against the direction of the first is not taken, and x is the root.
-    pub fn later(self, x: f64, direction: f64, mu: f64) -> Stepped
-        ensures { view_stepped result ≡ later mu x direction (view_newton self) }
-    {
-        match self {
-            Newton::Move(dx) => {
-                if dx * direction < 0.0 {
-                    return Stepped::Root(x * mu);
-                }
-                after_move(x + dx, dx, direction, mu)
-            }
-            Newton::Refused => Stepped::None,
-        }
-    }
+// After the first step, made at x, whose sign the later ones keep.
+#[tactic(auto, unfolding(crate::specs::Newton::first))]
+pub fn first(step: Option<f64>, x: f64, mu: f64) -> Stepped
+    ensures { view_flow view_option result ≡ first mu x (view_option step) }
+{
+    let Some(dx) = step else {
+        return ControlFlow::Break(None);
+    };
+    after_move(x + dx, dx, signum(dx), mu)
 }
 
-impl Stepped {
-    // After the last step that may be made its point is the root.
-    pub fn last(self, mu: f64, left: Allowance) -> Quantile
-        ensures { view_quantile result ≡ have (last mu (view_stepped self)) left.left }
-    {
-        match self {
-            Stepped::Root(root) => Quantile::Root(root, left),
-            Stepped::None => Quantile::None(left),
-            Stepped::Again(x, _) => Quantile::Root(x * mu, left),
-        }
+// After a later step, made at x: one against the direction of the first is not taken, and x is the root.
+#[tactic(auto, unfolding(crate::specs::Newton::later))]
+pub fn later(step: Option<f64>, x: f64, direction: f64, mu: f64) -> Stepped
+    ensures { view_flow view_option result ≡ later mu x direction (view_option step) }
+{
+    let Some(dx) = step else {
+        return ControlFlow::Break(None);
+    };
+    if dx * direction < 0.0 {
+        return ControlFlow::Break(Some(x * mu));
+    }
+    after_move(x + dx, dx, direction, mu)
+}
+
+// After the last step that may be made its point is the root.
+pub fn last(stepped: Stepped, mu: f64) -> Option<f64>
+    ensures { view_option result ≡ last mu (view_flow view_option stepped) }
+{
+    match stepped {
+        ControlFlow::Break(root) => root,
+        ControlFlow::Continue((x, _)) => Some(x * mu),
     }
 }
 
@@ -135,60 +123,62 @@ fn steps(
     probability: f64,
     log_probability: f64,
     mu: f64,
-    allowed: Allowance,
-) -> Quantile
-    ensures { view_quantile result ≡ limited allowed.left (steps probability log_probability mu (view_stepped begin)) }
+    allowed: &mut Allowance,
+) -> Result<Option<f64>, Spent>
+    ensures metered { metered view_option result allowed.new.left
+        ≡ limited allowed.old.left (steps probability log_probability mu (view_flow view_option begin)) }
+    ensures spent { OnErr result (allowed.new.left ≡ 0) }
 {
-    let mut left = allowed;
     let mut next = begin;
     for _ in 1u32..100 {
         match next {
-            Stepped::Root(root) => return Quantile::Root(root, left),
-            Stepped::None => return Quantile::None(left),
-            Stepped::Again(x, direction) => {
-                match inverse_gaussian_cdf(x * mu, mu, left) {
-                    Evaluation::Spent => return Quantile::Spent,
-                    Evaluation::Value {
-                        cdf,
-                        sqrt_x,
-                        a,
-                        exponential,
-                        rest,
-                    } => {
-                        left = rest;
-                        let error = numerator(cdf, probability, log_probability);
-                        let pdf = pdf_by_exponential(x * mu, sqrt_x, a, exponential);
-                        next = nrstep(mu * pdf, error).later(x, direction, mu);
-                    }
-                }
+            ControlFlow::Break(root) => return Ok(root),
+            ControlFlow::Continue((x, direction)) => {
+                let step = step_at(x, probability, log_probability, mu, allowed)?;
+                next = later(step, x, direction, mu);
             }
         }
     }
-    next.last(mu, left)
+    Ok(last(next, mu))
 }
 
-pub fn inverse_gaussian_quantile_actuar(probability: f64, mu: f64, allowed: Allowance) -> Quantile
-    ensures { view_quantile result ≡ limited allowed.left (inverse_gaussian_quantile_actuar probability mu) }
+// The Newton step at x, after one evaluation there.
+fn step_at(
+    x: f64,
+    probability: f64,
+    log_probability: f64,
+    mu: f64,
+    allowed: &mut Allowance,
+) -> Result<Option<f64>, Spent>
+    ensures metered { metered view_option result allowed.new.left ≡ limited allowed.old.left (tick (at_once (step_at x probability log_probability mu))) }
+    ensures spent { OnErr result (allowed.new.left ≡ 0) }
+{
+    let evaluation = inverse_gaussian_cdf(x * mu, mu, allowed)?;
+    let error = numerator(evaluation.value, probability, log_probability);
+    Ok(nrstep(mu * evaluation.density(x * mu), error))
+}
+
+pub fn inverse_gaussian_quantile_actuar(
+    probability: f64,
+    mu: f64,
+    allowed: &mut Allowance,
+) -> Result<Option<f64>, Spent>
+    ensures metered { metered view_option result allowed.new.left ≡ limited allowed.old.left (inverse_gaussian_quantile_actuar probability mu) }
+    ensures spent { OnErr result (allowed.new.left ≡ 0) }
 {
     let log_probability = ln(probability);
     let x = initial_x(probability, log_probability, mu);
-    match inverse_gaussian_cdf(x * mu, mu, allowed) {
-        Evaluation::Spent => Quantile::Spent,
-        Evaluation::Value {
-            cdf,
-            sqrt_x,
-            a,
-            exponential,
-            rest,
-        } => {
-            let error = numerator(cdf, probability, log_probability);
-            let pdf = pdf_by_exponential(x * mu, sqrt_x, a, exponential);
-            let begin = nrstep(mu * pdf, error).first(x, mu);
-            steps(begin, probability, log_probability, mu, rest)
-        }
-    }
+    let step = step_at(x, probability, log_probability, mu, allowed)?;
+    steps(
+        first(step, x, mu),
+        probability,
+        log_probability,
+        mu,
+        allowed,
+    )
 }
 
+#[tactic(auto, unfolding(crate::specs::Newton::inverse_gaussian_mode_standardized))]
 pub fn inverse_gaussian_mode_standardized(phi: f64) -> f64
     ensures { result ≡ inverse_gaussian_mode_standardized phi }
 {
@@ -202,6 +192,7 @@ pub fn inverse_gaussian_mode_standardized(phi: f64) -> f64
 }
 
 // The error of `cdf`, by logarithms where it is close to the probability.
+#[tactic(auto, unfolding(crate::specs::Newton::numerator))]
 fn numerator(cdf: f64, probability: f64, log_probability: f64) -> f64
     ensures { result ≡ numerator cdf probability log_probability }
 {
@@ -216,12 +207,14 @@ fn numerator(cdf: f64, probability: f64, log_probability: f64) -> f64
     probability
 }
 
-// The step that would bring `error` to 0 where the density is `pdf`.
-pub fn nrstep(pdf: f64, error: f64) -> Newton
-    ensures { view_newton result ≡ nrstep pdf error }
+// The step that would bring `error` to 0 where the density is `pdf`: perhaps infinite, and none where the density cannot
+// be divided by.
+#[tactic(auto, unfolding(crate::specs::Newton::nrstep))]
+pub fn nrstep(pdf: f64, error: f64) -> Option<f64>
+    ensures { view_option result ≡ nrstep pdf error }
 {
     if is_finite_positive(pdf) {
-        return Newton::Move(error / pdf);
+        return Some(error / pdf);
     }
-    Newton::Refused
+    None
 }

@@ -1,224 +1,189 @@
 // The quantile of a probability: Newton steps, and where they give none a search in a bracket.
-ghost use Rattle.std.specs.Prelude.{◌≡◌, true};
-ghost use Rattle.inverse_gaussian.specs.Counted.{limited, mapped, some_of};
+ghost use Rattle.std.specs.Prelude.{◌≡◌, true, OnErr};
+ghost use Rattle.inverse_gaussian.specs.Counted.{limited, some_of};
 ghost use Rattle.inverse_gaussian.specs.Curves.{finite_positive};
-ghost use Rattle.inverse_gaussian.specs.Internal.Searches.{view_reach, view_quantile, view_newton, view_iteration};
-ghost use Rattle.inverse_gaussian.specs.Quantile.{bracket_at, floor, raised, clamped, continue_at, moved, iteration, iterations};
+ghost use Rattle.inverse_gaussian.specs.Internal.Searches.{metered, view_option, view_flow};
+ghost use Rattle.inverse_gaussian.specs.Internal.Bracketed.{distribution};
+ghost use Rattle.inverse_gaussian.specs.Bracket.{doubled};
+ghost use Rattle.inverse_gaussian.specs.Quantile.{continue_at, moved};
 ghost use Rattle.inverse_gaussian.specs.Quantile.{solvable, filtered, inverse_gaussian_quantile, inverse_gaussian_quantile_bracketed};
 
-use crate::bracket::{
-    Bracket, QUANTILE_BRACKET_TOLERANCE, bracket_is_tight, bracket_midpoint,
-    bracket_quantile_from_above, bracket_quantile_from_below,
-};
-use crate::counted::{Quantile, Reach};
-use crate::curves::{Allowance, Evaluation, inverse_gaussian_cdf, pdf_by_exponential};
+use crate::bracket::{Bracket, QUANTILE_BRACKET_TOLERANCE, bracket_is_tight, bracket_midpoint};
+use crate::curves::{Allowance, Evaluation, Spent, inverse_gaussian_cdf, pdf_by_exponential};
 use crate::initial_guess::{
     inverse_gaussian_quantile_initial_guess, is_finite_positive, starting_point,
 };
-use crate::newton::{Newton, inverse_gaussian_quantile_actuar, nrstep};
-use arithmetic::basic::{abs, max};
-use arithmetic::constants::MIN_POSITIVE;
-
-// After an iteration: the root, or a narrower bracket with the point of the next iteration.
-#[derive(Drop)]
-pub enum Iteration {
-    Root(f64),
-    Again(Bracket, f64),
-}
+use crate::newton::{inverse_gaussian_quantile_actuar, nrstep};
+use crate::search::{Curve, search_from};
+use arithmetic::basic::{abs, is_finite, max};
+use arithmetic::constants::MAX;
+use std::ops::ControlFlow;
 
 // Whether there is a quantile to look for: the probability strictly between 0 and 1, mu finite and above 0.
 pub fn is_solvable(probability: f64, mu: f64) -> bool
     ensures { result ≡ solvable probability mu }
 {
-    if probability > 0.0 {
-        if probability < 1.0 {
-            is_finite_positive(mu)
-        } else {
-            false
-        }
-    } else {
-        false
-    }
+    probability > 0.0 && probability < 1.0 && is_finite_positive(mu)
 }
 
-impl Quantile {
-    // A root that is not finite and above 0 is none.
-    pub fn filtered(self) -> Quantile
-        ensures { view_quantile result ≡ mapped filtered (view_quantile self) }
-    {
-        match self {
-            Quantile::Root(root, left) => {
-                if is_finite_positive(root) {
-                    return Quantile::Root(root, left);
-                }
-                Quantile::None(left)
-            }
-            Quantile::None(left) => Quantile::None(left),
-            Quantile::Spent => Quantile::Spent,
-        }
-    }
+// A root that is not finite and above 0 is none.
+#[tactic(auto, unfolding(crate::specs::Quantile::filtered))]
+pub fn filtered(root: Option<f64>) -> Option<f64>
+    ensures { view_option result ≡ filtered (view_option root) }
+{
+    root.filter(|x| is_finite_positive(*x))
 }
 
-pub fn inverse_gaussian_quantile(probability: f64, mu: f64, allowed: Allowance) -> Quantile
-    ensures { view_quantile result ≡ limited allowed.left (inverse_gaussian_quantile probability mu) }
+pub fn inverse_gaussian_quantile(
+    probability: f64,
+    mu: f64,
+    allowed: &mut Allowance,
+) -> Result<Option<f64>, Spent>
+    ensures metered { metered view_option result allowed.new.left ≡ limited allowed.old.left (inverse_gaussian_quantile probability mu) }
+    ensures spent { OnErr result (allowed.new.left ≡ 0) }
 {
     if !is_solvable(probability, mu) {
-        return Quantile::None(allowed);
+        return Ok(None);
     }
-    match inverse_gaussian_quantile_actuar(probability, mu, allowed).filtered() {
-        Quantile::Root(root, left) => Quantile::Root(root, left),
-        Quantile::None(left) => inverse_gaussian_quantile_bracketed(probability, mu, left),
-        Quantile::Spent => Quantile::Spent,
-    }
-}
-
-// Upwards from x where the distribution there is below the probability, and else downwards.
-fn bracket_at(x: f64, cdf: f64, mu: f64, probability: f64, allowed: Allowance) -> Reach
-    requires { finite_positive x ≡ true }
-    ensures { view_reach result ≡ limited allowed.left (some_of (bracket_at x cdf mu probability)) }
-{
-    if cdf < probability {
-        bracket_quantile_from_below(x, mu, probability, allowed)
-    } else {
-        bracket_quantile_from_above(x, mu, probability, allowed)
+    match filtered(inverse_gaussian_quantile_actuar(probability, mu, allowed)?) {
+        Some(root) => Ok(Some(root)),
+        None => inverse_gaussian_quantile_bracketed(probability, mu, allowed),
     }
 }
 
-impl Bracket {
-    // The lower bound, or the smallest normal value where that is 0.
-    fn floor(self) -> f64
-        ensures { result ≡ floor self }
-    {
-        if self.lower > 0.0 {
-            self.lower
-        } else {
-            MIN_POSITIVE
-        }
-    }
-
-    fn raised(self, x: f64) -> f64
-        ensures { result ≡ raised self x }
-    {
-        let floor = self.floor();
-        if x < floor { floor } else { x }
-    }
-
-    // x brought into the bracket: the lower bound is applied, then the upper.
-    pub fn clamped(self, x: f64) -> f64
-        ensures { result ≡ clamped self x }
-    {
-        let raised = self.raised(x);
-        if raised > self.upper {
-            self.upper
-        } else {
-            raised
-        }
-    }
-
-    // Another iteration at `next`, unless that is x again: then nothing would change, and the midpoint is the root.
-    fn continue_at(self, x: f64, next: f64) -> Iteration
-        ensures { view_iteration result ≡ continue_at self x next }
-    {
-        if next == x {
-            return Iteration::Root(bracket_midpoint(self));
-        }
-        Iteration::Again(self, next)
-    }
-
-    // A step within the tolerance, relative to x or to 1 if that is larger, leads to the root; any other to another
-    // iteration.
-    fn moved(self, x: f64, step: Newton) -> Iteration
-        ensures { view_iteration result ≡ moved self x (view_newton step) }
-    {
-        match step {
-            Newton::Move(dx) => {
-                let next = x - dx;
-                if abs(dx) <= QUANTILE_BRACKET_TOLERANCE * max(x, 1.0) {
-                    return Iteration::Root(next);
-                }
-                self.continue_at(x, self.chosen(next))
-            }
-            Newton::Refused => self.continue_at(x, bracket_midpoint(self)),
-        }
-    }
-
-    // One iteration, at x, where the distribution is `cdf` and the density `pdf`.
-    pub fn iteration(self, x: f64, cdf: f64, pdf: f64, probability: f64) -> Iteration
-        ensures { view_iteration result ≡ iteration pdf probability (self, x) cdf }
-    {
-        let error = cdf - probability;
-        if error == 0.0 {
-            return Iteration::Root(x);
-        }
-        let bracket = self.narrowed(x, error <= 0.0);
-        if bracket_is_tight(bracket) {
-            return Iteration::Root(bracket_midpoint(bracket));
-        }
-        bracket.moved(x, nrstep(pdf, error))
-    }
-}
-
-// At most 64 iterations, after which the midpoint is the root.
-fn iterations(start: Bracket, guess: f64, mu: f64, probability: f64, allowed: Allowance) -> Quantile
-    ensures { view_quantile result ≡ limited allowed.left (some_of (iterations mu probability start guess)) }
-{
-    let mut bracket = start;
-    let mut x = guess;
-    let mut left = allowed;
-    for _ in 0u32..64 {
-        match inverse_gaussian_cdf(x, mu, left) {
-            Evaluation::Spent => return Quantile::Spent,
-            Evaluation::Value {
-                cdf,
-                sqrt_x,
-                a,
-                exponential,
-                rest,
-            } => {
-                left = rest;
-                let pdf = pdf_by_exponential(x, sqrt_x, a, exponential);
-                match bracket.iteration(x, cdf, pdf, probability) {
-                    Iteration::Root(root) => return Quantile::Root(root, left),
-                    Iteration::Again(b, next) => {
-                        bracket = b;
-                        x = next;
-                    }
-                }
-            }
-        }
-    }
-    Quantile::Root(bracket_midpoint(bracket), left)
-}
-
-// One evaluation at the starting point, a bracket on the side of the root, and the iterations in it.
+// The search from the starting point by the distribution.
 pub(crate) fn inverse_gaussian_quantile_bracketed(
     probability: f64,
     mu: f64,
-    allowed: Allowance,
-) -> Quantile
+    allowed: &mut Allowance,
+) -> Result<Option<f64>, Spent>
     requires { finite_positive mu ≡ true }
-    ensures { view_quantile result ≡ limited allowed.left (some_of (inverse_gaussian_quantile_bracketed probability mu)) }
+    ensures metered { metered view_option result allowed.new.left
+        ≡ limited allowed.old.left (some_of (inverse_gaussian_quantile_bracketed probability mu)) }
+    ensures spent { OnErr result (allowed.new.left ≡ 0) }
 {
     let x = starting_point(inverse_gaussian_quantile_initial_guess(probability, mu), mu);
-    let Evaluation::Value {
-        cdf,
-        sqrt_x: _,
-        a: _,
-        exponential: _,
-        rest,
-    } = inverse_gaussian_cdf(x, mu, allowed)
-    else {
-        return Quantile::Spent;
-    };
-    match bracket_at(x, cdf, mu, probability, rest) {
-        Reach::Found(bracket, left) => iterations(
-            bracket,
-            bracket.clamped(x),
-            mu,
-            probability,
-            left,
-        ),
-        Reach::None(left) => Quantile::None(left),
-        Reach::Spent => Quantile::Spent,
+    search_from::<Evaluation>(x, mu, probability, allowed)
+}
+
+// Twice x, or the largest finite value where that is not finite.
+#[tactic(auto, unfolding(crate::specs::Bracket::doubled))]
+fn doubled(x: f64) -> f64
+    ensures { result ≡ doubled x }
+{
+    let next = x * 2.0;
+    if is_finite(next) { next } else { MAX }
+}
+
+// The distribution increases, so that the root is above a value that is below the probability.
+impl Curve for Evaluation {
+    ghost use Rattle.inverse_gaussian.specs.Internal.Searches.{pdf_by_exponential};
+    ghost use Rattle.inverse_gaussian.specs.Internal.Bracketed.{distribution};
+    ghost use Rattle.inverse_gaussian.specs.Laws.DoublingEnds.{distribution_upward_ends};
+    ghost use Rattle.inverse_gaussian.specs.Laws.HalvingEnds.{distribution_downward_ends};
+
+    ghost search = { distribution };
+
+    ghost value_of = { λ e. e.value };
+
+    ghost density_at = { λ x e. pdf_by_exponential x e.sqrt_x e.a e.exponential };
+
+    ghost upward_ends = { distribution_upward_ends };
+
+    ghost downward_ends = { distribution_downward_ends };
+
+    fn evaluate(x: f64, mu: f64, allowed: &mut Allowance) -> Result<Evaluation, Spent> {
+        inverse_gaussian_cdf(x, mu, allowed)
     }
+
+    fn value(self) -> f64 {
+        self.value
+    }
+
+    fn density(self, x: f64) -> f64 {
+        pdf_by_exponential(x, self.sqrt_x, self.a, self.exponential)
+    }
+
+    fn root_is_above(value: f64, probability: f64) -> bool {
+        value < probability
+    }
+
+    #[tactic(auto, unfolding(crate::specs::Bracket::doubled_from))]
+    fn bracket_from(x: f64) -> Bracket {
+        Bracket {
+            lower: x,
+            upper: doubled(x),
+        }
+    }
+
+    // The bracket is found also where no finite value is above its upper bound.
+    #[tactic(auto, unfolding(crate::specs::Bracket::widened, crate::specs::Bracket::doubled_from))]
+    fn widened(
+        bracket: Bracket,
+        value: f64,
+        probability: f64,
+    ) -> ControlFlow<Option<Bracket>, Bracket> {
+        if value >= probability || bracket.upper == MAX {
+            return ControlFlow::Break(Some(bracket));
+        }
+        ControlFlow::Continue(Self::bracket_from(bracket.upper))
+    }
+
+    #[tactic(auto, unfolding(crate::specs::Bracket::lowered))]
+    fn lowered(bracket: Bracket, value: f64, probability: f64) -> ControlFlow<Bracket, Bracket> {
+        if value <= probability {
+            return ControlFlow::Break(bracket);
+        }
+        Bracket::halved(bracket.lower, bracket.lower * 2.0)
+    }
+
+    fn begin(bracket: Bracket, x: f64) -> f64 {
+        bracket.clamped(x)
+    }
+
+    #[tactic(auto, unfolding(crate::specs::Quantile::iteration, crate::specs::Quantile::tight_or))]
+    fn iteration(
+        bracket: Bracket,
+        x: f64,
+        value: f64,
+        pdf: f64,
+        probability: f64,
+    ) -> ControlFlow<f64, (Bracket, f64)> {
+        let error = value - probability;
+        if error == 0.0 {
+            return ControlFlow::Break(x);
+        }
+        let narrower = bracket.narrowed(x, error <= 0.0);
+        if bracket_is_tight(narrower) {
+            return ControlFlow::Break(bracket_midpoint(narrower));
+        }
+        moved(narrower, x, nrstep(pdf, error))
+    }
+}
+
+// A step within the tolerance, relative to x or to 1 if that is larger, leads to the root; any other to another
+// iteration.
+#[tactic(auto, unfolding(crate::specs::Quantile::moved))]
+fn moved(bracket: Bracket, x: f64, step: Option<f64>) -> ControlFlow<f64, (Bracket, f64)>
+    ensures { view_flow (λ r. r) result ≡ moved bracket x (view_option step) }
+{
+    let Some(dx) = step else {
+        return continue_at(bracket, x, bracket_midpoint(bracket));
+    };
+    let next = x - dx;
+    if abs(dx) <= QUANTILE_BRACKET_TOLERANCE * max(x, 1.0) {
+        return ControlFlow::Break(next);
+    }
+    continue_at(bracket, x, bracket.chosen(next))
+}
+
+// Another iteration at `next`, unless that is x again: then nothing would change, and the midpoint is the root.
+#[tactic(auto, unfolding(crate::specs::Quantile::continue_at))]
+fn continue_at(bracket: Bracket, x: f64, next: f64) -> ControlFlow<f64, (Bracket, f64)>
+    ensures { view_flow (λ r. r) result ≡ continue_at bracket x next }
+{
+    if next == x {
+        return ControlFlow::Break(bracket_midpoint(bracket));
+    }
+    ControlFlow::Continue((bracket, next))
 }

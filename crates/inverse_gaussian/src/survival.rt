@@ -1,189 +1,155 @@
 // The quantile of a survival probability, which 1 - probability could not tell from 1 where it is small.
-ghost use Rattle.std.specs.Prelude.{◌≡◌, true};
-ghost use Rattle.inverse_gaussian.specs.Counted.{limited, some_of};
-ghost use Rattle.inverse_gaussian.specs.Curves.{finite_positive};
-ghost use Rattle.inverse_gaussian.specs.Internal.Searches.{view_reach, view_quantile, view_newton, view_iteration, view_widening, view_doubling};
-ghost use Rattle.inverse_gaussian.specs.Survival.{capped_from, survival_widened, survival_from_below};
-ghost use Rattle.inverse_gaussian.specs.Survival.{survival_lowered, survival_from_above, survival_bracket_at};
-ghost use Rattle.inverse_gaussian.specs.Survival.{far, survival_step, survival_newton, survival_moved, survival_iteration, survival_iterations};
-ghost use Rattle.inverse_gaussian.specs.Survival.{inverse_gaussian_quantile_from_survival};
+ghost use Rattle.std.specs.Prelude.{◌≡◌, OnErr};
+ghost use Rattle.inverse_gaussian.specs.Counted.{limited};
+ghost use Rattle.inverse_gaussian.specs.Internal.Searches.{metered, view_option, view_flow};
+ghost use Rattle.inverse_gaussian.specs.Survival.{far, survival_step, survival_newton, survival_moved, inverse_gaussian_quantile_from_survival};
 
-use crate::bracket::{
-    Bracket, QUANTILE_BRACKET_TOLERANCE, Widening, bracket_is_tight, bracket_midpoint,
-};
-use crate::counted::{Quantile, Reach};
+use crate::bracket::{Bracket, QUANTILE_BRACKET_TOLERANCE, bracket_is_tight, bracket_midpoint};
 use crate::curves::{
-    Allowance, SurvivalEvaluation, inverse_gaussian_pdf, inverse_gaussian_survival,
+    Allowance, Spent, SurvivalEvaluation, inverse_gaussian_pdf, inverse_gaussian_survival,
 };
 use crate::initial_guess::{
     inverse_gaussian_quantile_initial_guess_from_z, is_finite_positive, starting_point,
 };
-use crate::newton::Newton;
-use crate::quantile::{Iteration, is_solvable};
+use crate::quantile::is_solvable;
+use crate::search::{Curve, search_from};
 use arithmetic::basic::{abs, min};
 use arithmetic::constants::MAX;
 use arithmetic::ln::ln;
 use special_function::normal_distribution::inverse_norm_cdf;
+use std::ops::ControlFlow;
 
-// What the doubling makes of the survival at the upper bound: the bracket is found, the next one is to be
-// evaluated, or there is none, since the root is above the largest finite value.
-#[derive(Drop)]
-pub enum Doubling {
-    Reached(Bracket),
-    Wider(Bracket),
-    Beyond,
+// The search from the starting point by the survival.
+pub fn inverse_gaussian_quantile_from_survival(
+    probability: f64,
+    mu: f64,
+    allowed: &mut Allowance,
+) -> Result<Option<f64>, Spent>
+    ensures metered { metered view_option result allowed.new.left ≡ limited allowed.old.left (inverse_gaussian_quantile_from_survival probability mu) }
+    ensures spent { OnErr result (allowed.new.left ≡ 0) }
+{
+    if !is_solvable(probability, mu) {
+        return Ok(None);
+    }
+    let z = -inverse_norm_cdf(probability);
+    let x = starting_point(inverse_gaussian_quantile_initial_guess_from_z(z, mu), mu);
+    search_from::<SurvivalEvaluation>(x, mu, probability, allowed)
 }
 
-impl Bracket {
-    // The bracket from x to its double, or to the largest finite value if that is smaller.
-    pub fn capped_from(x: f64) -> Bracket
-        ensures { result ≡ capped_from x }
-    {
+// The survival decreases, so that the root is above a value that is above the probability.
+impl Curve for SurvivalEvaluation {
+    ghost use Rattle.inverse_gaussian.specs.Internal.Searches.{pdf_from};
+    ghost use Rattle.inverse_gaussian.specs.Internal.Bracketed.{survival};
+    ghost use Rattle.inverse_gaussian.specs.Laws.DoublingEnds.{survival_upward_ends};
+    ghost use Rattle.inverse_gaussian.specs.Laws.HalvingEnds.{survival_downward_ends};
+
+    ghost search = { survival };
+
+    ghost value_of = { λ e. e.value };
+
+    ghost density_at = { λ x e. pdf_from x e.sqrt_x e.a };
+
+    ghost upward_ends = { survival_upward_ends };
+
+    ghost downward_ends = { survival_downward_ends };
+
+    fn evaluate(x: f64, mu: f64, allowed: &mut Allowance) -> Result<SurvivalEvaluation, Spent> {
+        inverse_gaussian_survival(x, mu, allowed)
+    }
+
+    fn value(self) -> f64 {
+        self.value
+    }
+
+    fn density(self, x: f64) -> f64 {
+        inverse_gaussian_pdf(x, self.sqrt_x, self.a)
+    }
+
+    fn root_is_above(value: f64, probability: f64) -> bool {
+        value > probability
+    }
+
+    #[tactic(auto, unfolding(crate::specs::Survival::capped_from))]
+    fn bracket_from(x: f64) -> Bracket {
         Bracket {
             lower: x,
             upper: min(x * 2.0, MAX),
         }
     }
 
-    // The bracket is found where `survival`, which is that at its upper bound, is at most the probability.
-    pub fn survival_widened(self, survival: f64, probability: f64) -> Doubling
-        ensures { view_doubling result ≡ survival_widened probability self survival }
-    {
-        if survival <= probability {
-            return Doubling::Reached(self);
+    // There is none where the root is above the largest finite value.
+    #[tactic(auto, unfolding(crate::specs::Survival::survival_widened, crate::specs::Survival::capped_from))]
+    fn widened(
+        bracket: Bracket,
+        value: f64,
+        probability: f64,
+    ) -> ControlFlow<Option<Bracket>, Bracket> {
+        if value <= probability {
+            return ControlFlow::Break(Some(bracket));
         }
-        if self.upper == MAX {
-            return Doubling::Beyond;
+        if bracket.upper == MAX {
+            return ControlFlow::Break(None);
         }
-        Doubling::Wider(Bracket::capped_from(self.upper))
+        ControlFlow::Continue(Self::bracket_from(bracket.upper))
     }
 
-    // The bracket is found where `survival`, which is that at its lower bound, reaches the probability.
-    pub fn survival_lowered(self, survival: f64, probability: f64) -> Widening
-        ensures { view_widening result ≡ survival_lowered probability self survival }
-    {
-        if survival >= probability {
-            return Widening::Reached(self);
+    #[tactic(auto, unfolding(crate::specs::Survival::survival_lowered))]
+    fn lowered(bracket: Bracket, value: f64, probability: f64) -> ControlFlow<Bracket, Bracket> {
+        if value >= probability {
+            return ControlFlow::Break(bracket);
         }
-        Bracket::halved(self.lower, self.lower)
+        Bracket::halved(bracket.lower, bracket.lower)
     }
 
-    // A step within the tolerance, relative to x, leads to the root; any other to another iteration. The survival
-    // decreases, so that the step is added.
-    fn survival_moved(self, x: f64, step: Newton) -> Iteration
-        ensures { view_iteration result ≡ survival_moved self x (view_newton step) }
-    {
-        match step {
-            Newton::Move(dx) => {
-                let next = x + dx;
-                if abs(dx) <= QUANTILE_BRACKET_TOLERANCE * x {
-                    return Iteration::Root(next);
-                }
-                Iteration::Again(self, self.chosen(next))
-            }
-            Newton::Refused => Iteration::Again(self, bracket_midpoint(self)),
-        }
+    fn begin(_bracket: Bracket, x: f64) -> f64 {
+        x
     }
 
-    // One iteration, at x, where the survival is `survival` and the density `pdf`.
-    pub fn survival_iteration(self, x: f64, survival: f64, pdf: f64, probability: f64) -> Iteration
-        ensures { view_iteration result ≡ survival_iteration pdf probability (self, x) survival }
-    {
-        let error = survival - probability;
+    #[tactic(auto, unfolding(crate::specs::Survival::survival_iteration, crate::specs::Survival::survival_tight_or))]
+    fn iteration(
+        bracket: Bracket,
+        x: f64,
+        value: f64,
+        pdf: f64,
+        probability: f64,
+    ) -> ControlFlow<f64, (Bracket, f64)> {
+        let error = value - probability;
         if error == 0.0 {
-            return Iteration::Root(x);
+            return ControlFlow::Break(x);
         }
-        let bracket = self.narrowed(x, error > 0.0);
-        if bracket_is_tight(bracket) {
-            return Iteration::Root(bracket_midpoint(bracket));
+        let narrower = bracket.narrowed(x, error > 0.0);
+        if bracket_is_tight(narrower) {
+            return ControlFlow::Break(bracket_midpoint(narrower));
         }
-        bracket.survival_moved(x, survival_newton(survival, probability, pdf))
+        moved(narrower, x, survival_newton(value, probability, pdf))
     }
 }
 
-// Doubles from `initial`, where the survival is above the probability, until it no longer is.
-fn from_below(initial: f64, mu: f64, probability: f64, allowed: Allowance) -> Reach
-    requires { finite_positive initial ≡ true }
-    ensures { view_reach result ≡ limited allowed.left (survival_from_below initial mu probability) }
+// A step within the tolerance, relative to x, leads to the root; any other to another iteration. The survival
+// decreases, so that the step is added.
+#[tactic(auto, unfolding(crate::specs::Survival::survival_moved))]
+fn moved(bracket: Bracket, x: f64, step: Option<f64>) -> ControlFlow<f64, (Bracket, f64)>
+    ensures { view_flow (λ r. r) result ≡ survival_moved bracket x (view_option step) }
 {
-    let mut bracket = Bracket::capped_from(initial);
-    let mut left = allowed;
-    loop {
-        match inverse_gaussian_survival(bracket.upper, mu, left) {
-            SurvivalEvaluation::Spent => return Reach::Spent,
-            SurvivalEvaluation::Value {
-                survival,
-                sqrt_x: _,
-                a: _,
-                rest,
-            } => {
-                left = rest;
-                match bracket.survival_widened(survival, probability) {
-                    Doubling::Reached(b) => return Reach::Found(b, left),
-                    Doubling::Beyond => return Reach::None(left),
-                    Doubling::Wider(b) => bracket = b,
-                }
-            }
-        }
+    let Some(dx) = step else {
+        return ControlFlow::Continue((bracket, bracket_midpoint(bracket)));
+    };
+    let next = x + dx;
+    if abs(dx) <= QUANTILE_BRACKET_TOLERANCE * x {
+        return ControlFlow::Break(next);
     }
-}
-
-// Halves from `initial`, where the survival is not above the probability, until it is not below.
-fn from_above(initial: f64, mu: f64, probability: f64, allowed: Allowance) -> Reach
-    requires { finite_positive initial ≡ true }
-    ensures { view_reach result ≡ limited allowed.left (some_of (survival_from_above initial mu probability)) }
-{
-    let mut trial = Bracket::halved(initial, initial);
-    let mut left = allowed;
-    loop {
-        match trial {
-            Widening::Reached(b) => return Reach::Found(b, left),
-            Widening::Wider(b) => match inverse_gaussian_survival(b.lower, mu, left) {
-                SurvivalEvaluation::Spent => return Reach::Spent,
-                SurvivalEvaluation::Value {
-                    survival,
-                    sqrt_x: _,
-                    a: _,
-                    rest,
-                } => {
-                    left = rest;
-                    trial = b.survival_lowered(survival, probability);
-                }
-            },
-        }
-    }
-}
-
-// Upwards from x where the survival there is above the probability, and else downwards.
-fn survival_bracket_at(
-    x: f64,
-    survival: f64,
-    mu: f64,
-    probability: f64,
-    allowed: Allowance,
-) -> Reach
-    requires { finite_positive x ≡ true }
-    ensures { view_reach result ≡ limited allowed.left (survival_bracket_at x survival mu probability) }
-{
-    if survival > probability {
-        from_below(x, mu, probability, allowed)
-    } else {
-        from_above(x, mu, probability, allowed)
-    }
+    ControlFlow::Continue((bracket, bracket.chosen(next)))
 }
 
 // Whether the survival is above 0 and differs from the probability by more than half of it.
 fn is_far(survival: f64, probability: f64) -> bool
     ensures { result ≡ far survival probability }
 {
-    if survival > 0.0 {
-        abs(survival / probability - 1.0) > 0.5
-    } else {
-        false
-    }
+    survival > 0.0 && abs(survival / probability - 1.0) > 0.5
 }
 
 // The step where the density is `pdf`: for the logarithm of the survival where that is far from the probability.
+#[tactic(auto, unfolding(crate::specs::Survival::survival_step))]
 fn survival_step(survival: f64, probability: f64, pdf: f64) -> f64
     ensures { result ≡ survival_step survival probability pdf }
 {
@@ -193,77 +159,12 @@ fn survival_step(survival: f64, probability: f64, pdf: f64) -> f64
     (survival - probability) / pdf
 }
 
-fn survival_newton(survival: f64, probability: f64, pdf: f64) -> Newton
-    ensures { view_newton result ≡ survival_newton survival probability pdf }
+#[tactic(auto, unfolding(crate::specs::Survival::survival_newton))]
+fn survival_newton(survival: f64, probability: f64, pdf: f64) -> Option<f64>
+    ensures { view_option result ≡ survival_newton survival probability pdf }
 {
     if is_finite_positive(pdf) {
-        return Newton::Move(survival_step(survival, probability, pdf));
+        return Some(survival_step(survival, probability, pdf));
     }
-    Newton::Refused
-}
-
-// At most 64 iterations, after which the midpoint is the root.
-fn survival_iterations(
-    start: Bracket,
-    guess: f64,
-    mu: f64,
-    probability: f64,
-    allowed: Allowance,
-) -> Quantile
-    ensures { view_quantile result ≡ limited allowed.left (some_of (survival_iterations mu probability start guess)) }
-{
-    let mut bracket = start;
-    let mut x = guess;
-    let mut left = allowed;
-    for _ in 0u32..64 {
-        match inverse_gaussian_survival(x, mu, left) {
-            SurvivalEvaluation::Spent => return Quantile::Spent,
-            SurvivalEvaluation::Value {
-                survival,
-                sqrt_x,
-                a,
-                rest,
-            } => {
-                left = rest;
-                let pdf = inverse_gaussian_pdf(x, sqrt_x, a);
-                match bracket.survival_iteration(x, survival, pdf, probability) {
-                    Iteration::Root(root) => return Quantile::Root(root, left),
-                    Iteration::Again(b, next) => {
-                        bracket = b;
-                        x = next;
-                    }
-                }
-            }
-        }
-    }
-    Quantile::Root(bracket_midpoint(bracket), left)
-}
-
-// One evaluation at the starting point, a bracket on the side of the root, and the iterations in it.
-pub fn inverse_gaussian_quantile_from_survival(
-    probability: f64,
-    mu: f64,
-    allowed: Allowance,
-) -> Quantile
-    ensures { view_quantile result ≡ limited allowed.left (inverse_gaussian_quantile_from_survival probability mu) }
-{
-    if !is_solvable(probability, mu) {
-        return Quantile::None(allowed);
-    }
-    let z = -inverse_norm_cdf(probability);
-    let x = starting_point(inverse_gaussian_quantile_initial_guess_from_z(z, mu), mu);
-    let SurvivalEvaluation::Value {
-        survival,
-        sqrt_x: _,
-        a: _,
-        rest,
-    } = inverse_gaussian_survival(x, mu, allowed)
-    else {
-        return Quantile::Spent;
-    };
-    match survival_bracket_at(x, survival, mu, probability, rest) {
-        Reach::Found(bracket, left) => survival_iterations(bracket, x, mu, probability, left),
-        Reach::None(left) => Quantile::None(left),
-        Reach::Spent => Quantile::Spent,
-    }
+    None
 }

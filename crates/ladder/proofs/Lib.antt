@@ -1,2 +1,3 @@
 -- Laws that only the proofs of the ladder cite.
 mod Places
+pub mod Tests

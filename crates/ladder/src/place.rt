@@ -36,7 +36,7 @@ impl Shared {
     }
 
     // Tests 1 to 6, and what follows where they leave the price below its bound at a time above zero: only there is the strike's root taken.
-    #[tactic(auto, using(crate::specs::Laws::Places::early_reply, crate::specs::Laws::Places::early_root, crate::specs::Laws::Places::decided_refusal, crate::specs::Laws::Places::decided_root, crate::specs::Laws::Places::open_reply_lem, crate::specs::Laws::Places::open_root, crate::specs::Laws::Places::from_roots_open))]
+    #[tactic(auto, using(crate::proofs::Tests::tests_1_to_6))]
     pub(crate) fn solve_place(self, price: f64, strike: f64, roots: &mut StrikeRoots) -> Reply
         requires { roots.old.taken < 500 }
         ensures { (view_reply result ≡ implied_black_volatility_input self.side price self.forward strike self.time)

@@ -2,8 +2,8 @@
 -- promise of the allowance. No entry's contract cites these. Definitions only.
 use Rattle.std.specs.Prelude.{◌≡◌, ℕ, ◌≤◌, Float, Ok, Err, Result}
 use Rattle.std.specs.Prelude.{Option as Decided, Some, None}
-use Rattle.explicit_black.specs.declared.quote.Solved.{Solved}
-use Rattle.explicit_black.specs.declared.quote.Solved.TheVariants.{Total, Refused, Spent}
+use Rattle.explicit_black.specs.declared.quote.Unsolved.{Unsolved}
+use Rattle.explicit_black.specs.declared.quote.Unsolved.TheVariants.{Refused, Spent}
 use Rattle.explicit_black.specs.declared.refusal.Refusal.{Refusal}
 use Rattle.explicit_black.specs.Refusal.{number}
 use Rattle.inverse_gaussian.specs.Counted.{Option, some, none, Counted, Metered, have, spent, limited}
@@ -14,11 +14,16 @@ abbrev pub view_refusal : Result Unit Refusal → ℕ
 view_refusal (Ok _) = 0
 view_refusal (Err r) = number r
 
--- the outcome with how many evaluations are left, or an allowance that was spent
-abbrev pub view_solved : Solved → Metered Outcome
-view_solved (Total v n) = have (total v) n.left
-view_solved (Refused r n) = have (refused (number r)) n.left
-view_solved Spent = spent
+-- an outcome
+abbrev pub view_outcome : Result Float Refusal → Outcome
+view_outcome (Ok v) = total v
+view_outcome (Err r) = refused (number r)
+
+-- the outcome with the n evaluations that are left afterwards, or an allowance that was spent
+abbrev pub view_solved : Result Float Unsolved → ℕ → Metered Outcome
+view_solved (Ok v) n = have (total v) n
+view_solved (Err (Refused r)) n = have (refused (number r)) n
+view_solved (Err Spent) n = spent
 
 -- what tests 5 and 6 decide, if anything
 abbrev pub view_tested : Result (Decided Float) Refusal → Option Outcome

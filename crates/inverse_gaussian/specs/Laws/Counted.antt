@@ -101,6 +101,13 @@ value_of {n} {m} {v} {w} e = let q = taken_off n m v (tick (at_once w)) e in (q.
 pub none_of : {R : Type 0} {n : ℕ} (w : R) → spent ≡ limited n (tick (at_once w)) → n ≡ zero
 none_of {n} w = by_allowance (λ m. spent ≡ m → n ≡ zero) n (tick (at_once w)) (λ h e. never (cc)) (λ h e. omega arith)
 
+-- after one evaluation was taken off, or was not, that of another value gives the same
+pub taken : {R Q : Type 0} (n : ℕ) (u : Q) {m : ℕ} {t : Q} {v w : R} → have t m ≡ limited n (tick (at_once u)) → v ≡ w → have v m ≡ limited n (tick (at_once w))
+taken n u {m} {v = v} {w} e h = let o = (value_of e).1 in rw (limited_enough n (tick (at_once w)) (omega arith), h) (ap (have w) (omega arith))
+
+pub not_taken : {R Q : Type 0} (n : ℕ) (u : Q) (w : R) → spent ≡ limited n (tick (at_once u)) → spent ≡ limited n (tick (at_once w))
+not_taken n u w e = tick_none n w (none_of u e)
+
 pub fewer : {R : Type 0} {n m : ℕ} {v : R} (w : R) → have v m ≡ limited n (tick (at_once w)) → m < n
 fewer w e = omega (arith, (value_of e).1)
 

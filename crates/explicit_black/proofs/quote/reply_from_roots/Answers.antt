@@ -4,4 +4,4 @@ use Rattle.explicit_black.proofs.Allowed.{enough_within}
 use Rattle.explicit_black.proofs.quote.reply_from_roots.Goals as goal
 
 pub reply-requires : goal.reply-requires
-reply-requires c = enough_within 2263 _ _ (rw c.new-allowed.ensures at c.from_roots-solved.ensures) (time_value_count _ _)
+reply-requires c = enough_within 2263 _ _ (rw c.new-allowed.ensures at c.from_roots-solved.ensures.metered) (time_value_count _ _)

@@ -1,15 +1,16 @@
 -- `curves::inverse_gaussian_cdf` meets its contract. Assumes nothing.
 use Rattle.special_function.specs.Laws.SharedExponential.{pdf_of_square}
 use Rattle.inverse_gaussian.specs.Curves.{inverse_gaussian_cdf, inverse_gaussian_pdf}
-use Rattle.inverse_gaussian.specs.Laws.Counted.{tick_some, tick_none}
+use Rattle.inverse_gaussian.specs.Laws.Counted.{taken, not_taken}
+use Rattle.inverse_gaussian.specs.Laws.Metered.{passed_on}
 use Rattle.inverse_gaussian.proofs.curves.inverse_gaussian_cdf.Goals as goal
 
-pub returns-then-allowed-eq0 : goal.returns-then-allowed-eq0
-returns-then-allowed-eq0 c = tick_none _ _ c.if-allowed-eq0.true
+pub returns-in_err-take-clause-metered : goal.returns-in_err-take-clause-metered
+returns-in_err-take-clause-metered c = passed_on _ _ _ c.from_residual.ensures.0 (not_taken _ _ _ c.in_err-take.ensures.metered)
 
-pub returns : goal.returns
+pub returns-clause-metered : goal.returns-clause-metered
 unfolding inverse_gaussian_cdf inverse_gaussian_pdf
-returns c = tick_some _ _ _ c.if-allowed-eq0.false
+returns-clause-metered c = taken _ _ c.in_ok-take.ensures.metered
     (rw (
       c.erfcx_cody.ensures,
       c.norm_cdf.ensures,
@@ -18,4 +19,3 @@ returns c = tick_some _ _ _ c.if-allowed-eq0.false
       c.sqrt-sqrt_x.ensures,
       pdf_of_square,
     ))
-    c.lowered.ensures

@@ -1,12 +1,11 @@
 -- `initial_guess::is_finite_positive` meets its contract. Assumes nothing.
 use mathlib.Core.Path.{◌≡◌, refl}
-use mathlib.Core.Bool.{true, false, and-false, false≢true}
+use mathlib.Core.Bool.{true, false, false≢true}
 use lib.Dec.{T}
 use denote.Floats.{passes}
 use lib.Ieee.{Float, nan, inf, fin, binary64, lt, le, fits, of_bits}
 use lib.Ieee.Bits.{is_true}
 use Rattle.arithmetic.specs.Operations.{plus_zero, max_finite}
-use Rattle.arithmetic.specs.Basic.{is_finite}
 use Rattle.arithmetic.specs.Laws.Bounds.{at_most_max}
 use Rattle.inverse_gaussian.specs.Curves.{finite_positive}
 use Rattle.inverse_gaussian.proofs.initial_guess.is_finite_positive.Goals as goal
@@ -20,11 +19,5 @@ above_zero (inf false) F h = refl
 above_zero (fin true m e) F h = absurd (false≢true h)
 above_zero (fin false m e) F h = rw (is_true (le (fin false m e) max_finite) (at_most_max (fin false m e) F tt refl), h) refl
 
-not_above : (x : Float) → lt plus_zero x ≡ false → false ≡ finite_positive x
-not_above x h = rw (h, and-false (is_finite x)) refl
-
 pub returns-then-x : goal.returns-then-x
 returns-then-x c = above_zero _ (passes _ c.well_formed.0.1) c.if-x.true
-
-pub returns-else-x : goal.returns-else-x
-returns-else-x c = not_above _ c.if-x.false

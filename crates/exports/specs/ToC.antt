@@ -1,15 +1,13 @@
 -- What C is handed by a call: the number that is returned, and what then stands at the places that the caller gave. Definitions only.
-use Rattle.std.specs.Prelude.{ℕ, zero, suc, Bool, ◌||◌, cond, List, [], ◌++◌, eqb, Float, length, take}
+use Rattle.std.specs.Prelude.{ℕ, zero, suc, Bool, ◌||◌, cond, List, [], ◌++◌, eqb, Float, length, take, Some, None}
 use Prim.Native.Char.{code}
 use Rattle.explicit_black.specs.Quote.{Reply, answer, refusal}
 use Rattle.explicit_black.specs.Price.{PriceReply, price, refusal as refusal_of_price}
 use Rattle.ladder.specs.Ladder.{LadderReply, solved, refused as refused_ladder, Ladder}
 use Rattle.xdr_sheet.specs.Sheet.{Size, quotes, refused, SheetReply, replied, no_quote}
 use Rattle.xdr_sheet.specs.Text.{fits_into, overlaid}
-use Rattle.xdr_sheet.specs.Printing.{Step, step}
+use Rattle.xdr_sheet.specs.Printing.{Progress, Step, step}
 use Rattle.xdr_sheet.specs.declared.tally.Tally.{Tally}
-use Rattle.xdr_sheet.specs.declared.printing.Progress.{Progress}
-use Rattle.xdr_sheet.specs.declared.printing.Progress.TheVariants.{Tallied, Over}
 
 -- ---- a reply: the number, and total volatility, volatility and count at their places
 pub data ReplyToC : Type 0 where
@@ -69,8 +67,8 @@ pub data LineToC : Type 0 where
 
 -- the tally after a line: with the line's quote, or as before after the last line and that of a refused sheet
 abbrev pub tally_after : Tally → Progress → Tally
-tally_after t (Tallied next) = next
-tally_after t Over = t
+tally_after t (Some next) = next
+tally_after t None = t
 
 -- the letter, the bytes counted, the tally after the line and the line at the buffer's start; or 0, and what stood there before, where it has no room
 abbrev pub line_of : ℕ → Tally → List ℕ → Step → LineToC

@@ -24,14 +24,10 @@ ghost use Rattle.exports.specs.ToC.{handed_reply, reply_to_c, sheet_reply_to_c, 
 ghost use Rattle.exports.specs.ToC.{handed_size, size_to_c, tally_after, handed_line, line_to_c};
 
 use cable_window::window::Window;
-use explicit_black::price::PriceReply;
 use explicit_black::quote::Reply;
+use explicit_black::terms::OptionTerms;
 use inverse_gaussian::curves::{Allowance, Evaluation, SurvivalEvaluation};
-use ladder::ladder::LadderReply;
-use xdr_sheet::printing::Progress;
-use xdr_sheet::sheet::{SheetReply, Size};
 use xdr_sheet::tally::Tally;
-use xdr_sheet::text::Placed;
 
 #[unsafe(no_mangle)]
 pub extern "C" fn quoter_sqrt(x: f64) -> f64
@@ -177,19 +173,15 @@ fn hand(reply: Reply, total: &mut f64, volatility: &mut f64, count: &mut u64) ->
         ≡ reply_to_c total.old volatility.old (view_reply reply) }
 {
     match reply {
-        Reply::Answer {
-            total: v,
-            volatility: w,
-            count: n,
-        } => {
-            *total = v;
-            *volatility = w;
-            *count = n;
+        Ok(answer) => {
+            *total = answer.total;
+            *volatility = answer.volatility;
+            *count = answer.count;
             0
         }
-        Reply::Refusal { number, count: n } => {
-            *count = n;
-            number
+        Err(refused) => {
+            *count = refused.count;
+            refused.refusal.number()
         }
     }
 }
@@ -209,9 +201,13 @@ pub extern "C" fn quoter_quote(
     ensures { handed_reply result total.new volatility.new count.new
         ≡ reply_to_c total.old volatility.old (implied_black_volatility_discounted side price forward strike time factor) }
 {
-    let reply = explicit_black::discount::implied_black_volatility_discounted(
-        side, price, forward, strike, time, factor,
-    );
+    let terms = OptionTerms {
+        side,
+        forward,
+        strike,
+        time,
+    };
+    let reply = explicit_black::discount::implied_black_volatility_discounted(terms, price, factor);
     hand(reply, total, volatility, count)
 }
 
@@ -243,12 +239,18 @@ pub extern "C" fn quoter_price(
     ensures { handed_price result price.new
         ≡ price_to_c price.old (black_price side volatility forward strike time) }
 {
-    match explicit_black::price::black_price(side, volatility, forward, strike, time) {
-        PriceReply::Price(p) => {
+    let terms = OptionTerms {
+        side,
+        forward,
+        strike,
+        time,
+    };
+    match explicit_black::price::black_price(terms, volatility) {
+        Ok(p) => {
             *price = p;
             0
         }
-        PriceReply::Refusal { number, count: _ } => number,
+        Err(refused) => refused.refusal.number(),
     }
 }
 
@@ -282,11 +284,11 @@ pub extern "C" fn quoter_ladder(
         counts,
         refusals,
     ) {
-        LadderReply::Solved { roots: n } => {
-            *roots = n;
+        Ok(taken) => {
+            *roots = taken;
             0
         }
-        LadderReply::Refusal { number, count: _ } => number,
+        Err(refused) => refused.refusal.number(),
     }
 }
 
@@ -296,11 +298,11 @@ pub extern "C" fn quoter_sheet_size(sheet: &[u8], quotes: &mut u32) -> u32
     ensures { handed_size result quotes.new ≡ size_to_c quotes.old (size sheet.now) }
 {
     match xdr_sheet::sheet::quotes_in(sheet) {
-        Size::Quotes(n) => {
+        Ok(n) => {
             *quotes = n;
             0
         }
-        Size::Refusal { number, count: _ } => number,
+        Err(refused) => refused.refusal.number(),
     }
 }
 
@@ -320,18 +322,8 @@ pub extern "C" fn quoter_sheet_quote(
         ≡ sheet_reply_to_c total.old volatility.old count.old (sheet_reply sheet.now index) }
 {
     match xdr_sheet::sheet::reply(sheet, index) {
-        SheetReply::Replied(reply) => hand(reply, total, volatility, count),
-        SheetReply::NoQuote => NO_QUOTE,
-    }
-}
-
-// The tally after a line: with the line's quote, or as before after the last line and that of a refused sheet.
-fn tally_after(tally: Tally, progress: Progress) -> Tally
-    ensures { result ≡ tally_after tally progress }
-{
-    match progress {
-        Progress::Tallied(next) => next,
-        Progress::Over => tally,
+        Some(reply) => hand(reply, total, volatility, count),
+        None => NO_QUOTE,
     }
 }
 
@@ -357,18 +349,17 @@ pub extern "C" fn quoter_sheet_line(
         refusals: *refusals,
     };
     let printed = xdr_sheet::printing::next_line(sheet, tally);
-    let line = printed.line;
-    let progress = printed.next;
-    match xdr_sheet::text::place(line, text) {
-        Placed::Bytes(bytes) => {
+    match xdr_sheet::text::place(printed.line.as_slice(), text) {
+        Some(bytes) => {
             *count = bytes as u64;
-            let next = tally_after(tally, progress);
+            // after the last line, and after that of a refused sheet, the tally is as before
+            let next = printed.next.unwrap_or(tally);
             *finite = next.finite;
             *infinite = next.infinite;
             *refusals = next.refusals;
-            printed.letter as u32
+            printed.kind.letter() as u32
         }
-        Placed::NoRoom => 0,
+        None => 0,
     }
 }
 
@@ -377,5 +368,8 @@ pub extern "C" fn quoter_sheet_line(
 pub extern "C" fn quoter_window_write(window: &mut Window, offset: u32, word: u32) -> u32
     ensures { (result ≡ offset_refusal offset) × (window.new.bytes ≡ after_write window.old.bytes offset word) }
 {
-    cable_window::window::write(window, offset, word)
+    match window.write(offset, word) {
+        Ok(()) => 0,
+        Err(refusal) => refusal.number(),
+    }
 }

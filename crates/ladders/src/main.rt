@@ -9,66 +9,87 @@
 mod text;
 
 use ladder::ladder::implied_black_volatility_ladder;
-use records::read_whole;
+use records::read_record;
 use std::io;
 use std::io::Read;
-use text::{write_places, write_reply};
+use std::iter::from_fn;
+use text::{Places, write_places, write_reply};
 use xdr_sheet::xdr::{double, unsigned};
 
-// Where the head of a ladder has its figures and lengths; and its own length.
-const FORWARD: usize = 4;
-
-const TIME: usize = 12;
-
-const STRIKES: usize = 20;
-
-const PRICES: usize = 24;
-
-const TOTALS: usize = 28;
-
-const VOLATILITIES: usize = 32;
-
-const COUNTS: usize = 36;
-
-const REFUSALS: usize = 40;
-
 const HEAD_BYTES: usize = 44;
+
+const DOUBLE_BYTES: usize = 8;
 
 // How many places a buffer holds.
 const ROOM: usize = 512;
 
-// Reads doubles into the first `count` places of `out`; whether there are so many places and doubles.
-fn read_doubles(input: &mut impl Read, out: &mut [f64], count: usize) -> io::Result<bool> {
-    for i in 0..count {
-        let mut bytes = [0u8; 8];
-        if i >= out.len() || !read_whole(input, &mut bytes)? {
-            return Ok(false);
+// What a ladder's quotes share, and how many places each slice has.
+#[derive(Clone, Copy)]
+struct Head {
+    side: u32,
+    forward: f64,
+    time: f64,
+    strikes: usize,
+    prices: usize,
+    totals: usize,
+    volatilities: usize,
+    counts: usize,
+    refusals: usize,
+}
+
+impl From<[u8; HEAD_BYTES]> for Head {
+    fn from(bytes: [u8; HEAD_BYTES]) -> Head {
+        let length = |at| unsigned(&bytes, at) as usize;
+        Head {
+            side: unsigned(&bytes, 0),
+            forward: double(&bytes, 4),
+            time: double(&bytes, 12),
+            strikes: length(20),
+            prices: length(24),
+            totals: length(28),
+            volatilities: length(32),
+            counts: length(36),
+            refusals: length(40),
         }
-        out[i] = double(&bytes, 0);
     }
-    Ok(true)
 }
 
-// The length whose word is at `at`.
-fn length(head: &[u8], at: usize) -> usize {
-    unsigned(head, at) as usize
+// Reads doubles into the first `count` places of a buffer. `None`: there are not so many places, or doubles.
+fn read_doubles<'a>(
+    input: &mut impl Read,
+    buffer: &'a mut [f64],
+    count: usize,
+) -> io::Result<Option<&'a [f64]>> {
+    let Some(places) = buffer.get_mut(..count) else {
+        return Ok(None);
+    };
+    for place in places.iter_mut() {
+        let Some(bytes) = read_record::<_, DOUBLE_BYTES>(input)? else {
+            return Ok(None);
+        };
+        *place = double(&bytes, 0);
+    }
+    Ok(Some(places))
 }
 
-// Solves a ladder and writes its lines.
-fn solve(
-    rt: &impl Print,
-    head: &[u8],
-    strikes: &[f64],
-    prices: &[f64],
-    totals: &mut [f64],
-    volatilities: &mut [f64],
-    counts: &mut [u64],
-    refusals: &mut [u32],
-) -> io::Result<()> {
+// Solves a ladder and writes its lines. `None`: a slice would be longer than the buffers. The lent slices hold other values before.
+fn solve(rt: &impl Print, head: &Head, strikes: &[f64], prices: &[f64]) -> io::Result<Option<()>> {
+    let mut totals = [-1.0f64; ROOM];
+    let mut volatilities = [-2.0f64; ROOM];
+    let mut counts = [u64::MAX; ROOM];
+    let mut refusals = [u32::MAX; ROOM];
+    let (Some(totals), Some(volatilities), Some(counts), Some(refusals)) = (
+        totals.get_mut(..head.totals),
+        volatilities.get_mut(..head.volatilities),
+        counts.get_mut(..head.counts),
+        refusals.get_mut(..head.refusals),
+    ) else {
+        return Ok(None);
+    };
     let reply = implied_black_volatility_ladder(
-        unsigned(head, 0),
-        double(head, FORWARD),
-        double(head, TIME),
+        head.side,
+        head.forward,
+        head.time,
         strikes,
         prices,
         totals,
@@ -77,84 +98,39 @@ fn solve(
         refusals,
     );
     write_reply(rt, reply)?;
-    write_places(rt, totals, volatilities, counts, refusals)
-}
-
-// Solves with the first places of buffers, as many as the head says; whether there are so many.
-fn solve_within(
-    rt: &impl Print,
-    head: &[u8],
-    strikes: &[f64],
-    prices: &[f64],
-    totals: &mut [f64],
-    volatilities: &mut [f64],
-    counts: &mut [u64],
-    refusals: &mut [u32],
-) -> io::Result<bool> {
-    let k = length(head, STRIKES);
-    let p = length(head, PRICES);
-    if k > strikes.len() || p > prices.len() {
-        return Ok(false);
-    }
-    let t = length(head, TOTALS);
-    let v = length(head, VOLATILITIES);
-    if t > totals.len() || v > volatilities.len() {
-        return Ok(false);
-    }
-    let c = length(head, COUNTS);
-    let r = length(head, REFUSALS);
-    if c > counts.len() || r > refusals.len() {
-        return Ok(false);
-    }
-    solve(
+    write_places(
         rt,
-        head,
-        &strikes[..k],
-        &prices[..p],
-        &mut totals[..t],
-        &mut volatilities[..v],
-        &mut counts[..c],
-        &mut refusals[..r],
+        Places {
+            totals,
+            volatilities,
+            counts,
+            refusals,
+        },
     )?;
-    Ok(true)
+    Ok(Some(()))
 }
 
-// Reads a ladder and writes its lines; whether the input holds one more that the buffers have room for. The lent slices hold
-// other values before.
-fn answer_ladder(rt: &impl Print, input: &mut impl Read) -> io::Result<bool> {
-    let mut head = [0u8; HEAD_BYTES];
-    if !read_whole(input, &mut head)? {
-        return Ok(false);
-    }
+// Reads a ladder and writes its lines. `None`: the input ends inside it, or it is longer than the buffers.
+fn answer_ladder(rt: &impl Print, input: &mut impl Read) -> io::Result<Option<()>> {
+    let Some(head) = read_record(input)?.map(Head::from) else {
+        return Ok(None);
+    };
     let mut strikes = [0.0f64; ROOM];
     let mut prices = [0.0f64; ROOM];
-    let k = length(&head, STRIKES);
-    let p = length(&head, PRICES);
-    if !read_doubles(input, &mut strikes, k)? || !read_doubles(input, &mut prices, p)? {
-        return Ok(false);
-    }
-    let mut totals = [-1.0f64; ROOM];
-    let mut volatilities = [-2.0f64; ROOM];
-    let mut counts = [u64::MAX; ROOM];
-    let mut refusals = [u32::MAX; ROOM];
-    solve_within(
-        rt,
-        &head,
-        &strikes,
-        &prices,
-        &mut totals,
-        &mut volatilities,
-        &mut counts,
-        &mut refusals,
-    )
+    let Some(strikes) = read_doubles(input, &mut strikes, head.strikes)? else {
+        return Ok(None);
+    };
+    let Some(prices) = read_doubles(input, &mut prices, head.prices)? else {
+        return Ok(None);
+    };
+    solve(rt, &head, strikes, prices)
 }
 
 fn main(rt: HostRuntime) -> io::Result<()> {
     let mut input = rt.stdin();
-    for _ in 0..u64::MAX {
-        if !answer_ladder(&rt, &mut input)? {
-            break;
-        }
+    let answers = from_fn(|| answer_ladder(&rt, &mut input).transpose());
+    for answer in answers.take(usize::MAX) {
+        answer?;
     }
     Ok(())
 }

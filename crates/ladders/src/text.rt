@@ -1,82 +1,55 @@
 // A ladder's reply and the four lent slices as lines of text.
-use ladder::ladder::LadderReply;
-use std::io;
+use explicit_black::refusal::Refused;
+use records::bits::Bits;
+use std::fmt::{Display, Formatter, Write};
+use std::{fmt, io};
 
-// Writes the 16 hexadecimal digits of a figure's bits, or `nan`.
-fn put_figure(rt: &impl Print, x: f64) -> io::Result<()> {
-    if x.is_nan() {
-        return print!(rt; "nan");
+// Prints as the value, or as `-` where there is none.
+#[derive(Drop)]
+struct OrDash<T>(Option<T>);
+
+impl<T: Display> Display for OrDash<T> {
+    fn fmt<W: Write>(&self, f: &mut Formatter<W>) -> fmt::Result {
+        match &self.0 {
+            Some(value) => write!(f, "{value}"),
+            None => f.write_str("-"),
+        }
     }
-    print!(rt; "{:016x}", f64::to_bits(x))
 }
 
-// Writes the figure at place i, or `-` where the slice is shorter.
-fn put_figure_at(rt: &impl Print, s: &[f64], i: usize) -> io::Result<()> {
-    if i < s.len() {
-        return put_figure(rt, s[i]);
-    }
-    print!(rt; "-")
+// The four lent slices, after the call.
+#[derive(Clone, Copy)]
+pub struct Places<'a> {
+    pub totals: &'a [f64],
+    pub volatilities: &'a [f64],
+    pub counts: &'a [u64],
+    pub refusals: &'a [u32],
 }
 
-fn put_count_at(rt: &impl Print, s: &[u64], i: usize) -> io::Result<()> {
-    if i < s.len() {
-        return print!(rt; "{}", s[i]);
+impl Places<'_> {
+    // How many places the longest of the four has.
+    fn count(self) -> usize {
+        let figures = self.totals.len().max(self.volatilities.len());
+        figures.max(self.counts.len()).max(self.refusals.len())
     }
-    print!(rt; "-")
-}
-
-fn put_number_at(rt: &impl Print, s: &[u32], i: usize) -> io::Result<()> {
-    if i < s.len() {
-        return print!(rt; "{}", s[i]);
-    }
-    print!(rt; "-")
 }
 
 // Writes `L` and how many strike roots were taken, or `R` with the number and count of a refusal.
-pub fn write_reply(rt: &impl Print, reply: LadderReply) -> io::Result<()> {
+pub fn write_reply(rt: &impl Print, reply: Result<u64, Refused>) -> io::Result<()> {
     match reply {
-        LadderReply::Solved { roots } => println!(rt; "L {roots}"),
-        LadderReply::Refusal { number, count } => println!(rt; "R {number} {count}"),
+        Ok(roots) => println!(rt; "L {roots}"),
+        Err(refused) => println!(rt; "R {} {}", refused.refusal.number(), refused.count),
     }
 }
 
-// Writes the four values of place i.
-fn write_place(
-    rt: &impl Print,
-    totals: &[f64],
-    volatilities: &[f64],
-    counts: &[u64],
-    refusals: &[u32],
-    i: usize,
-) -> io::Result<()> {
-    put_figure_at(rt, totals, i)?;
-    print!(rt; " ")?;
-    put_figure_at(rt, volatilities, i)?;
-    print!(rt; " ")?;
-    put_count_at(rt, counts, i)?;
-    print!(rt; " ")?;
-    put_number_at(rt, refusals, i)?;
-    println!(rt; "")
-}
-
-fn larger(a: usize, b: usize) -> usize {
-    if a < b { b } else { a }
-}
-
-// Writes a line for each place of the longest of the four.
-pub fn write_places(
-    rt: &impl Print,
-    totals: &[f64],
-    volatilities: &[f64],
-    counts: &[u64],
-    refusals: &[u32],
-) -> io::Result<()> {
-    let places = larger(
-        larger(totals.len(), volatilities.len()),
-        larger(counts.len(), refusals.len()),
-    );
-    for i in 0..places {
-        write_place(rt, totals, volatilities, counts, refusals, i)?;
+// Writes a line for each place of the longest of the four: figures by their bits, and `-` where a slice is shorter.
+pub fn write_places(rt: &impl Print, places: Places) -> io::Result<()> {
+    for i in 0..places.count() {
+        let total = OrDash(places.totals.get(i).map(|x| Bits(*x)));
+        let volatility = OrDash(places.volatilities.get(i).map(|x| Bits(*x)));
+        let count = OrDash(places.counts.get(i));
+        let refusal = OrDash(places.refusals.get(i));
+        println!(rt; "{total} {volatility} {count} {refusal}")?;
     }
     Ok(())
 }

@@ -4,36 +4,19 @@
 // or a write that fails, whose error is reported.
 #![tactic(auto)]
 
-use records::read_whole;
+use records::read_record;
 use std::io;
-use std::io::Read;
-use xdr_sheet::price_record::{Numbered, RECORD_BYTES, RecordNumber, price_reply};
+use std::iter::{from_fn, successors};
+use xdr_sheet::price_record::{RECORD_BYTES, RecordNumber, price_reply};
 use xdr_sheet::text::price_line;
-
-// Reads a record and writes its line; whether the input holds one more.
-fn answer_record(rt: &impl Print, input: &mut impl Read, number: RecordNumber) -> io::Result<bool> {
-    let mut record = [0u8; RECORD_BYTES];
-    if !read_whole(input, &mut record)? {
-        return Ok(false);
-    }
-    let line = price_line(number, price_reply(&record));
-    let count = line.count();
-    let bytes = line.bytes;
-    rt.write_all(&bytes[..count])?;
-    Ok(true)
-}
 
 fn main(rt: HostRuntime) -> io::Result<()> {
     let mut input = rt.stdin();
-    let mut next = RecordNumber::first();
-    for _ in 0..u64::MAX {
-        let Numbered::Record(number) = next else {
-            break;
-        };
-        if !answer_record(&rt, &mut input, number)? {
-            break;
-        }
-        next = number.after();
+    let numbers = successors(RecordNumber::first(), |number| number.after());
+    let records = from_fn(|| read_record::<_, RECORD_BYTES>(&mut input).transpose());
+    for (number, record) in numbers.zip(records).take(usize::MAX) {
+        let line = price_line(number, price_reply(&record?));
+        rt.write_all(line.as_slice())?;
     }
     Ok(())
 }

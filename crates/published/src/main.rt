@@ -13,52 +13,43 @@ mod text;
 
 use arithmetic::ln::ln;
 use arithmetic::sqrt::sqrt;
-use records::read_whole;
+use records::read_record;
 use special_function::error_function::{erf_cody, erfc_cody, erfcx_cody};
 use special_function::normal_distribution::norm_cdf;
 use std::io;
-use std::io::Read;
-use text::{argument, decimals, number, write_line};
+use std::iter::from_fn;
+use text::{LINE_BYTES, Request, units, write_units};
 
 // The logarithm to base 10 of 1 / q.
 fn negative_log10(q: f64) -> f64 {
     -(ln(q) / ln(10.0))
 }
 
-// A quantity at x, or NaN where the number names none. Q(x) is the normal distribution's upper tail.
-fn quantity(number: u64, x: f64) -> f64 {
+// A quantity at x, if the number names one. Q(x) is the normal distribution's upper tail.
+fn quantity(number: u64, x: f64) -> Option<f64> {
     match number {
         // erf x
-        1 => erf_cody(x),
-        2 => 1.0 - erfc_cody(x),
+        1 => Some(erf_cody(x)),
+        2 => Some(1.0 - erfc_cody(x)),
         // x exp(x^2) erfc x
-        3 => x * erfcx_cody(x),
+        3 => Some(x * erfcx_cody(x)),
         // -log10 Q(x)
-        4 => negative_log10(0.5 * erfc_cody(x / sqrt(2.0))),
-        5 => negative_log10(norm_cdf(-x)),
-        _ => 0.0 / 0.0,
+        4 => Some(negative_log10(0.5 * erfc_cody(x / sqrt(2.0)))),
+        5 => Some(negative_log10(norm_cdf(-x))),
+        _ => None,
     }
-}
-
-// Reads a line and writes its value; whether the input holds one more that has a value.
-fn answer_line(rt: &impl Print, input: &mut impl Read) -> io::Result<bool> {
-    let mut line = [0u8; 11];
-    if !read_whole(input, &mut line)? {
-        return Ok(false);
-    }
-    write_line(
-        rt,
-        quantity(number(&line), argument(&line)),
-        decimals(&line),
-    )
 }
 
 fn main(rt: HostRuntime) -> io::Result<()> {
     let mut input = rt.stdin();
-    for _ in 0..u64::MAX {
-        if !answer_line(&rt, &mut input)? {
+    let lines = from_fn(|| read_record::<_, LINE_BYTES>(&mut input).transpose());
+    for line in lines.take(usize::MAX) {
+        let request = Request::from(line?);
+        let value = quantity(request.quantity, request.argument);
+        let Some(units) = value.and_then(|x| units(x, request.decimals)) else {
             break;
-        }
+        };
+        write_units(&rt, units, request.decimals)?;
     }
     Ok(())
 }

@@ -1,10 +1,20 @@
-// A line of input taken apart, and a value written with so many decimals.
+// What a line of input asks for, and a value written with so many decimals.
 ghost use Rattle.std.specs.Prelude.{◌<◌, ◌≤◌};
 
 use arithmetic::basic::trunc;
 use arithmetic::mul_add::mul_add;
-use io::decimal;
 use std::io::Result;
+use std::num::{nearest_u64_to_f64, saturating_f64_to_u64};
+
+pub const LINE_BYTES: usize = 11;
+
+// The number of a quantity, its argument, and how many decimals the table prints.
+#[derive(Drop)]
+pub struct Request {
+    pub quantity: u64,
+    pub argument: f64,
+    pub decimals: u64,
+}
 
 // The value of a digit; of another byte its low four bits.
 fn digit(byte: u8) -> u64
@@ -14,26 +24,23 @@ fn digit(byte: u8) -> u64
 }
 
 // The number that two digits write.
-fn two_digits(line: &[u8; 11], at: usize) -> u64
-    requires { at ≤ 9 }
+fn two_digits(tens: u8, ones: u8) -> u64
     ensures { result < 256 }
 {
-    digit(line[at]) * 10 + digit(line[at + 1])
+    digit(tens) * 10 + digit(ones)
 }
 
-// Which quantity the line asks for.
-pub fn number(line: &[u8; 11]) -> u64 {
-    digit(line[0])
-}
-
-// The argument: hundredths, divided by 100 and rounded once.
-pub fn argument(line: &[u8; 11]) -> f64 {
-    std::num::nearest_u64_to_f64(two_digits(line, 2) * 100 + two_digits(line, 5)) / 100.0
-}
-
-// How many decimals the table prints.
-pub fn decimals(line: &[u8; 11]) -> u64 {
-    two_digits(line, 8)
+impl From<[u8; LINE_BYTES]> for Request {
+    // The argument is in hundredths, divided by 100 and rounded once.
+    fn from(line: [u8; LINE_BYTES]) -> Request {
+        let [quantity, _, a, b, _, c, d, _, e, f, _] = line;
+        let hundredths = two_digits(a, b) * 100 + two_digits(c, d);
+        Request {
+            quantity: digit(quantity),
+            argument: nearest_u64_to_f64(hundredths) / 100.0,
+            decimals: two_digits(e, f),
+        }
+    }
 }
 
 // 10 to that power, for the numbers of decimals that the three tables have; 1 for any other.
@@ -61,30 +68,24 @@ fn nearest(x: f64, scale: f64) -> f64 {
     }
 }
 
-// Writes `whole`, a point in place of the first digit of `part`, and its other digits.
-fn write_parts(rt: &impl Print, whole: u64, part: u64) -> Result<()> {
-    let mut digits = [0u8; 20];
-    let count = decimal(part, &mut digits);
-    digits[0] = b'.';
-    print!(rt; "{whole}")?;
-    rt.write_all(&digits[..count])?;
-    println!(rt; "")
-}
-
-// Writes a value given in units of the last decimal.
-fn write_units(rt: &impl Print, units: u64, decimals: u64) -> Result<()> {
-    let unit = scale(decimals);
-    write_parts(rt, units / unit, unit + units % unit)
-}
-
-// Writes a value with so many decimals; whether it was. It is not for a NaN, a value below 0, or one of 2^64 units or more.
-pub fn write_line(rt: &impl Print, value: f64, decimals: u64) -> Result<bool> {
-    let rounded = nearest(value, std::num::nearest_u64_to_f64(scale(decimals)));
-    if rounded > -1.0 {
-        if rounded < 18446744073709551616.0 {
-            write_units(rt, std::num::truncating_f64_to_u64(rounded), decimals)?;
-            return Ok(true);
-        }
+// A value in units of the last decimal, to the nearest. There are none for a NaN, a value below 0, or one of 2^64 units or more.
+pub fn units(value: f64, decimals: u64) -> Option<u64> {
+    let rounded = nearest(value, nearest_u64_to_f64(scale(decimals)));
+    if rounded > -1.0 && rounded < 18446744073709551616.0 {
+        Some(saturating_f64_to_u64(rounded))
+    } else {
+        None
     }
-    Ok(false)
+}
+
+// Writes a value given in units of the last decimal: the whole, the point and, where there are any, the decimals.
+pub fn write_units(rt: &impl Print, units: u64, decimals: u64) -> Result<()> {
+    let unit = scale(decimals);
+    let whole = units / unit;
+    if unit == 1 {
+        return println!(rt; "{whole}.");
+    }
+    let part = units % unit;
+    let width = decimals as usize;
+    println!(rt; "{whole}.{part:0width$}")
 }

@@ -6,7 +6,7 @@ mod input;
 
 use input::read_sheet;
 use std::io;
-use xdr_sheet::printing::{Progress, fill, start};
+use xdr_sheet::printing::{fill, start};
 use xdr_sheet::sheet::MAX_BYTES;
 
 // How many bytes of text are written at a time, at most.
@@ -16,13 +16,9 @@ const PART_BYTES: usize = 4096;
 fn print(rt: &impl Print, sheet: &[u8]) -> io::Result<()> {
     let mut out = [0u8; PART_BYTES];
     let mut progress = start();
-    for _ in 0..u64::MAX {
-        let Progress::Tallied(_) = progress else {
-            break;
-        };
+    while let Some(_) = progress {
         let filled = fill(sheet, progress, &mut out);
-        let count = filled.count;
-        rt.write_all(&out[..count])?;
+        rt.write_all(&out[..filled.count])?;
         progress = filled.next;
     }
     Ok(())

@@ -14,140 +14,122 @@ use arithmetic::mul_add::mul_add;
 use arithmetic::sqrt::sqrt;
 use bs_option_price::{negative_abs_log_moneyness, normalised_black};
 use explicit_black::quote::{Reply, implied_black_volatility_normalised};
-use inverse_gaussian::curves::{
-    Allowance, Evaluation, SurvivalEvaluation, inverse_gaussian_cdf, inverse_gaussian_survival,
-};
-use records::read_whole;
+use inverse_gaussian::curves::{Allowance, inverse_gaussian_cdf, inverse_gaussian_survival};
+use records::read_record;
 use special_function::error_function::{erf_cody, erfc_cody, erfcx_cody, erfinv};
 use special_function::normal_distribution::{inverse_norm_cdf, norm_cdf, norm_pdf};
 use std::io;
-use std::io::Read;
-use text::{write_line, write_reply};
+use std::iter::from_fn;
+use text::write_outcome;
 use xdr_sheet::xdr::{double, unsigned};
 
 const RECORD_BYTES: usize = 28;
 
-// What a record gives: a function's value, a reply of the normalised entry, or that its number names no function.
+// What a record gives: a function's value, or a reply of the normalised entry.
 #[derive(Drop)]
 pub enum Outcome {
     Number(f64),
     Replied(Reply),
-    Unknown,
 }
 
-// The functions of layer one, by their numbers.
-fn arithmetic_of(number: u32, a: f64, b: f64, c: f64) -> Outcome {
-    match number {
-        1 => Outcome::Number(sqrt(a)),
-        2 => Outcome::Number(mul_add(a, b, c)),
-        3 => Outcome::Number(exp(a)),
-        4 => Outcome::Number(ln(a)),
-        5 => Outcome::Number(ln_1p(a)),
-        6 => Outcome::Number(trunc(a)),
-        7 => Outcome::Number(signum(a)),
-        8 => Outcome::Number(max(a, b)),
-        9 => Outcome::Number(min(a, b)),
-        _ => Outcome::Unknown,
-    }
+// A record: the number of a function, and three doubles, of which it takes the first.
+#[derive(Clone, Copy)]
+struct Call {
+    number: u32,
+    a: f64,
+    b: f64,
+    c: f64,
 }
 
-// The functions of layer two.
-fn special_function_of(number: u32, a: f64) -> Outcome {
-    match number {
-        10 => Outcome::Number(erf_cody(a)),
-        11 => Outcome::Number(erfc_cody(a)),
-        12 => Outcome::Number(erfcx_cody(a)),
-        13 => Outcome::Number(erfinv(a)),
-        14 => Outcome::Number(norm_pdf(a)),
-        15 => Outcome::Number(norm_cdf(a)),
-        16 => Outcome::Number(inverse_norm_cdf(a)),
-        _ => Outcome::Unknown,
+impl From<[u8; RECORD_BYTES]> for Call {
+    fn from(bytes: [u8; RECORD_BYTES]) -> Call {
+        Call {
+            number: unsigned(&bytes, 0),
+            a: double(&bytes, 4),
+            b: double(&bytes, 12),
+            c: double(&bytes, 20),
+        }
     }
 }
 
-// The functions of layer three.
-fn bs_option_price_of(number: u32, a: f64, b: f64, c: f64) -> Outcome {
-    match number {
-        17 => Outcome::Number(normalised_black(a, b, c)),
-        18 => Outcome::Number(negative_abs_log_moneyness(a, b)),
-        _ => Outcome::Unknown,
+impl Call {
+    // The functions of layer one, by their numbers.
+    fn arithmetic(self) -> Option<f64> {
+        match self.number {
+            1 => Some(sqrt(self.a)),
+            2 => Some(mul_add(self.a, self.b, self.c)),
+            3 => Some(exp(self.a)),
+            4 => Some(ln(self.a)),
+            5 => Some(ln_1p(self.a)),
+            6 => Some(trunc(self.a)),
+            7 => Some(signum(self.a)),
+            8 => Some(max(self.a, self.b)),
+            9 => Some(min(self.a, self.b)),
+            _ => None,
+        }
     }
-}
 
-// The probability that an evaluation gives. None is given where the allowance is spent.
-fn cdf_of(evaluation: Evaluation) -> Outcome {
-    match evaluation {
-        Evaluation::Value {
-            cdf,
-            sqrt_x: _,
-            a: _,
-            exponential: _,
-            rest: _,
-        } => Outcome::Number(cdf),
-        Evaluation::Spent => Outcome::Unknown,
+    // The functions of layer two.
+    fn special_function(self) -> Option<f64> {
+        match self.number {
+            10 => Some(erf_cody(self.a)),
+            11 => Some(erfc_cody(self.a)),
+            12 => Some(erfcx_cody(self.a)),
+            13 => Some(erfinv(self.a)),
+            14 => Some(norm_pdf(self.a)),
+            15 => Some(norm_cdf(self.a)),
+            16 => Some(inverse_norm_cdf(self.a)),
+            _ => None,
+        }
     }
-}
 
-fn survival_of(evaluation: SurvivalEvaluation) -> Outcome {
-    match evaluation {
-        SurvivalEvaluation::Value {
-            survival,
-            sqrt_x: _,
-            a: _,
-            rest: _,
-        } => Outcome::Number(survival),
-        SurvivalEvaluation::Spent => Outcome::Unknown,
+    // The functions of layer three.
+    fn bs_option_price(self) -> Option<f64> {
+        match self.number {
+            17 => Some(normalised_black(self.a, self.b, self.c)),
+            18 => Some(negative_abs_log_moneyness(self.a, self.b)),
+            _ => None,
+        }
     }
-}
 
-// The normalised entry, and the curves of layer four, each allowed the one evaluation that it makes.
-fn explicit_black_of(number: u32, a: f64, b: f64) -> Outcome {
-    match number {
-        19 => Outcome::Replied(implied_black_volatility_normalised(a, b)),
-        20 => cdf_of(inverse_gaussian_cdf(a, b, Allowance::new(1))),
-        21 => survival_of(inverse_gaussian_survival(a, b, Allowance::new(1))),
-        _ => Outcome::Unknown,
+    // The curves of layer four, each allowed the one evaluation that it makes.
+    fn inverse_gaussian(self) -> Option<f64> {
+        let mut allowed = Allowance::new(1);
+        match self.number {
+            20 => {
+                let evaluation = inverse_gaussian_cdf(self.a, self.b, &mut allowed);
+                evaluation.ok().map(|e| e.value)
+            }
+            21 => {
+                let evaluation = inverse_gaussian_survival(self.a, self.b, &mut allowed);
+                evaluation.ok().map(|e| e.value)
+            }
+            _ => None,
+        }
     }
-}
 
-// What a record gives: its function's number comes first, then its three doubles.
-fn evaluate(record: &[u8]) -> Outcome {
-    let number = unsigned(record, 0);
-    let a = double(record, 4);
-    let b = double(record, 12);
-    let c = double(record, 20);
-    if number < 10 {
-        return arithmetic_of(number, a, b, c);
+    // What the function gives. `None`: the number names none.
+    fn outcome(self) -> Option<Outcome> {
+        if self.number == 19 {
+            let reply = implied_black_volatility_normalised(self.a, self.b);
+            return Some(Outcome::Replied(reply));
+        }
+        self.arithmetic()
+            .or_else(|| self.special_function())
+            .or_else(|| self.bs_option_price())
+            .or_else(|| self.inverse_gaussian())
+            .map(|value| Outcome::Number(value))
     }
-    if number < 17 {
-        return special_function_of(number, a);
-    }
-    if number < 19 {
-        return bs_option_price_of(number, a, b, c);
-    }
-    explicit_black_of(number, a, b)
-}
-
-// Reads a record and writes its line; whether the input holds one more that gives a line.
-fn answer_record(rt: &impl Print, input: &mut impl Read) -> io::Result<bool> {
-    let mut record = [0u8; RECORD_BYTES];
-    if !read_whole(input, &mut record)? {
-        return Ok(false);
-    }
-    match evaluate(&record) {
-        Outcome::Number(value) => write_line(rt, value)?,
-        Outcome::Replied(reply) => return write_reply(rt, reply),
-        Outcome::Unknown => return Ok(false),
-    }
-    Ok(true)
 }
 
 fn main(rt: HostRuntime) -> io::Result<()> {
     let mut input = rt.stdin();
-    for _ in 0..u64::MAX {
-        if !answer_record(&rt, &mut input)? {
+    let records = from_fn(|| read_record(&mut input).transpose());
+    for record in records.take(usize::MAX) {
+        let Some(outcome) = Call::from(record?).outcome() else {
             break;
-        }
+        };
+        write_outcome(&rt, outcome)?;
     }
     Ok(())
 }

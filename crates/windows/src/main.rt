@@ -5,10 +5,14 @@
 // is reported.
 #![tactic(auto)]
 
-use cable_window::window::{WINDOW_BYTES, Window, after_writes, written};
-use records::read_whole;
+mod text;
+
+use cable_window::window::{Window, after_writes};
+use records::read_record;
 use std::io;
 use std::io::Read;
+use std::iter::from_fn;
+use text::Words;
 use xdr_sheet::xdr::unsigned;
 
 // How many writes a list has at most.
@@ -18,105 +22,43 @@ const WORD_BYTES: usize = 4;
 
 const WRITE_BYTES: usize = 8;
 
-// A space before each of 16 words of 8 digits, and the end of the line.
-const TEXT_BYTES: usize = 145;
-
-// Reads the writes of a list to the first `count` places of the two slices; whether there are so many places and writes.
-fn read_writes(
-    input: &mut impl Read,
-    offsets: &mut [u32],
-    words: &mut [u32],
-    count: usize,
-) -> io::Result<bool> {
-    for i in 0..count {
-        let mut bytes = [0u8; WRITE_BYTES];
-        if i >= offsets.len() || i >= words.len() || !read_whole(input, &mut bytes)? {
-            return Ok(false);
-        }
-        offsets[i] = unsigned(&bytes, 0);
-        words[i] = unsigned(&bytes, WORD_BYTES);
-    }
-    Ok(true)
-}
-
-// The hexadecimal digit of the lower half of a byte.
-fn digit(byte: u8) -> u8 {
-    let half = byte % 16;
-    if half < 10 {
-        b'0' + half
-    } else {
-        b'a' + (half - 10)
-    }
-}
-
-// Writes the words of a window, a space before each, and ends the line.
-fn put_words(rt: &impl Print, window: Window) -> io::Result<()> {
-    let bytes = window.bytes();
-    let mut text = [b' '; TEXT_BYTES];
-    for i in 0..WINDOW_BYTES {
-        let at = i / WORD_BYTES * 9 + 1 + i % WORD_BYTES * 2;
-        let byte = bytes[i];
-        text[at] = digit(byte / 16);
-        text[at + 1] = digit(byte);
-    }
-    text[TEXT_BYTES - 1] = b'\n';
-    rt.write_all(&text)
-}
-
 // Writes a line for each write, and one for the list.
 fn answer_writes(rt: &impl Print, offsets: &[u32], words: &[u32]) -> io::Result<()> {
     let mut window = Window::zeros();
-    for i in 0..offsets.len() {
-        if i >= words.len() {
-            break;
-        }
-        let reply = written(window, offsets[i], words[i]);
-        window = reply.window;
-        print!(rt; "{}", reply.number)?;
-        put_words(rt, window)?;
+    for (offset, word) in offsets.iter().zip(words) {
+        let written = window.write(*offset, *word);
+        let number = written.err().map_or(0, |refusal| refusal.number());
+        println!(rt; "{number}{}", Words(window))?;
     }
-    print!(rt; "W")?;
-    put_words(rt, after_writes(offsets, words))
+    println!(rt; "W{}", Words(after_writes(offsets, words)))
 }
 
-// Answers the first `count` writes; whether there are so many.
-fn answer_within(
-    rt: &impl Print,
-    offsets: &[u32],
-    words: &[u32],
-    count: usize,
-) -> io::Result<bool> {
-    if count > offsets.len() || count > words.len() {
-        return Ok(false);
-    }
-    answer_writes(rt, &offsets[..count], &words[..count])?;
-    Ok(true)
-}
-
-// Reads a list and writes its lines; whether the input holds one more of no more writes than there is room for.
-fn answer_list(rt: &impl Print, input: &mut impl Read) -> io::Result<bool> {
-    let mut head = [0u8; WORD_BYTES];
-    if !read_whole(input, &mut head)? {
-        return Ok(false);
-    }
+// Reads a list and writes its lines. `None`: the input ends inside it, or it has more writes than there is room for.
+fn answer_list(rt: &impl Print, input: &mut impl Read) -> io::Result<Option<()>> {
+    let Some(head) = read_record::<_, WORD_BYTES>(input)? else {
+        return Ok(None);
+    };
     let count = unsigned(&head, 0) as usize;
-    if count > ROOM {
-        return Ok(false);
+    let (mut offsets, mut words) = ([0u32; ROOM], [0u32; ROOM]);
+    let (Some(offsets), Some(words)) = (offsets.get_mut(..count), words.get_mut(..count)) else {
+        return Ok(None);
+    };
+    for (offset, word) in offsets.iter_mut().zip(words.iter_mut()) {
+        let Some(write) = read_record::<_, WRITE_BYTES>(input)? else {
+            return Ok(None);
+        };
+        *offset = unsigned(&write, 0);
+        *word = unsigned(&write, WORD_BYTES);
     }
-    let mut offsets = [0u32; ROOM];
-    let mut words = [0u32; ROOM];
-    if !read_writes(input, &mut offsets, &mut words, count)? {
-        return Ok(false);
-    }
-    answer_within(rt, &offsets, &words, count)
+    answer_writes(rt, offsets, words)?;
+    Ok(Some(()))
 }
 
 fn main(rt: HostRuntime) -> io::Result<()> {
     let mut input = rt.stdin();
-    for _ in 0..u64::MAX {
-        if !answer_list(&rt, &mut input)? {
-            break;
-        }
+    let answers = from_fn(|| answer_list(&rt, &mut input).transpose());
+    for answer in answers.take(usize::MAX) {
+        answer?;
     }
     Ok(())
 }

@@ -1,12 +1,7 @@
--- What is filled is within the buffer.
-use Rattle.std.proofs.Common.{rules, sym}
-use Rattle.std.proofs.lemmas.List.{length-take-le}
-use Rattle.xdr_sheet.specs.Laws.Printing.{fill_within}
+-- The buffer holds any line, so that each part leaves fewer to come.
+use native.Mathlib.Omega.{arith}
+use Rattle.xdr_sheet.specs.Laws.Printing.{fill_falls}
 use Rattle.sheet.proofs.print.Goals as goal
 
-pub slice_bounds-out-end : goal.slice_bounds-out-end
-slice_bounds-out-end g c = fill_within _ _ _ _ _ c.fill-filled.ensures (search rules)
-
-pub slice_bounds-write_all-end : goal.slice_bounds-write_all-end
-slice_bounds-write_all-end g c =
-    sym (length-take-le _ _ (fill_within _ _ _ _ _ c.fill-filled.ensures (search rules)))
+pub loop-progress-smaller : goal.loop-progress-smaller
+loop-progress-smaller g c = fill_falls _ _ _ _ _ c.fill-filled.ensures c.in-Some.is (omega arith)

@@ -1,0 +1,2 @@
+-- What the contracts of records cite. Definitions only.
+pub mod Bits

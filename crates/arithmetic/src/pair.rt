@@ -1,5 +1,5 @@
-// Whole numbers of 128 bits in two halves of 64: sums and differences wrap on each half, and the
-// carry and the borrow are found by comparison.
+// Whole numbers of 128 bits in two halves of 64, a form that is required: sums and differences wrap on each half, and the
+// carry and the borrow are found by comparison. The rest goes by u128.
 ghost use Rattle.std.specs.Prelude.{◌≡◌, ◌+◌, ◌-◌, ◌*◌, ◌/◌, ◌^◌, ◌<◌, ◌≤◌};
 ghost use Rattle.std.specs.Float.Ieee as Ieee;
 ghost use Rattle.arithmetic.specs.Internal.Pair.{val, jammed};

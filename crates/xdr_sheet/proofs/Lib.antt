@@ -1,5 +1,6 @@
 -- Laws that only the proofs of this crate cite.
 mod Fill
-mod Patterns
-pub mod Lines
+pub mod Cases
+pub mod Patterns
+pub mod Digits
 pub mod Words

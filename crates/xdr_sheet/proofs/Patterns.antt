@@ -1,12 +1,10 @@
 -- Which floats are NaN, and the pattern that NaN has here. Assumes nothing.
 use mathlib.Core.Path.{◌≡◌, refl}
 use mathlib.Core.Bool.{true, false≢true}
-use lib.Ieee.{Float, nan, inf, fin, binary64, of_bits, to_bits, div, is_nan, ne}
-use Rattle.arithmetic.specs.Laws.Signs.{is_nan_lem}
+use lib.Ieee.{Float, nan, inf, fin, binary64, of_bits, to_bits, is_nan}
 
--- the NaN that arithmetic makes
-pub nan_is : div binary64 (of_bits binary64 0) (of_bits binary64 0) ≡ nan
-unfolding div of_bits
+pub nan_is : of_bits binary64 0x7ff8_0000_0000_0000 ≡ nan
+unfolding of_bits
 nan_is = refl
 
 pub tested_nan : (x : Float) → is_nan x ≡ true → x ≡ nan
@@ -15,6 +13,6 @@ tested_nan nan h = refl
 tested_nan (inf s) h = absurd (false≢true h)
 tested_nan (fin s m e) h = absurd (false≢true h)
 
-pub nan_pattern : (x : Float) → ne x x ≡ true → 0x7ff8_0000_0000_0000 ≡ to_bits binary64 x
+pub nan_pattern : (x : Float) → is_nan x ≡ true → 0x7ff8_0000_0000_0000 ≡ to_bits binary64 x
 unfolding to_bits
-nan_pattern x h = rw (is_nan_lem x h)
+nan_pattern x h = rw (tested_nan x h)

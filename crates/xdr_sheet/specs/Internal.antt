@@ -1,4 +1,4 @@
--- What the code's lines in memory and its structs stand for, for the contracts of what prints.
+-- What the code's lines in memory and its structs stand for, and which bytes it reads.
 pub mod Bytes
 pub mod Lines
 pub mod Printing

@@ -22,16 +22,18 @@ pub enum LineKind {
     RefusedSheet,
 }
 
-impl LineKind {
-    fn of(reply: Reply) -> LineKind
-        ensures { view_kind result ≡ letter (view_reply reply) }
-    {
+impl From<Reply> for LineKind {
+    ghost from_gives = { λ reply kind. view_kind kind ≡ letter (view_reply reply) };
+
+    fn from(reply: Reply) -> LineKind {
         match reply {
             Ok(_) => LineKind::Answer,
             Err(_) => LineKind::Refusal,
         }
     }
+}
 
+impl LineKind {
     pub fn letter(self) -> u8
         ensures { result ≡ view_kind self }
     {
@@ -73,13 +75,13 @@ fn quote_line(tally: Tally, reply: Reply) -> Printed
 {
     Printed {
         line: reply_line(tally.quotes() + 1, reply),
-        kind: LineKind::of(reply),
+        kind: LineKind::from(reply),
         next: Some(tally.with(reply)),
     }
 }
 
 // The line that comes after those of the quotes tallied.
-#[tactic(auto, using(crate::specs::Laws::Sheet::quote_below, crate::specs::Laws::Printing::step_refused, crate::specs::Laws::Printing::step_last, crate::specs::Laws::Printing::step_quote))]
+#[tactic(auto, using(crate::proofs::Cases::step_cases))]
 pub fn next_line(sheet: &[u8], tally: Tally) -> Printed
     ensures { view_printed result ≡ step sheet.now tally }
 {

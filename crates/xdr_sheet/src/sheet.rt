@@ -37,6 +37,7 @@ const NO_SHEET: Refused = Refused {
 };
 
 // How many quotes a sheet has. Too short for a count, too many quotes, or not as long as their count says: refused.
+#[tactic(auto, using(crate::proofs::Cases::size_cases))]
 pub fn quotes_in(sheet: &[u8]) -> Result<u32, Refused>
     ensures { view_size result ≡ size sheet.now }
 {

@@ -60,7 +60,7 @@ impl Line {
         self.text.try_extend_from_slice(s).unwrap();
     }
 
-    #[tactic(auto, using(crate::proofs::Lines::decimal_is))]
+    #[tactic(auto, using(crate::proofs::Digits::decimal_is))]
     fn decimal(&mut self, n: u64)
         requires { length (written self.old) + decimal_digits ≤ line_bytes }
         ensures text { written self.new ≡ written self.old ++ decimal n }
@@ -71,7 +71,7 @@ impl Line {
         self.bytes(&digits[..k]);
     }
 
-    #[tactic(auto, using(crate::proofs::Lines::hexadecimal_is))]
+    #[tactic(auto, using(crate::proofs::Digits::hexadecimal_is))]
     fn hexadecimal(&mut self, bits: u64)
         requires { length (written self.old) + hexadecimal_digits ≤ line_bytes }
         ensures text { written self.new ≡ written self.old ++ hexadecimal bits }

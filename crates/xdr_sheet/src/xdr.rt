@@ -17,7 +17,6 @@ fn bytes_at<const N: usize>(s: &[u8], at: usize) -> Option<[u8; N]>
 }
 
 // An unsigned integer, in a word.
-#[tactic(auto, using(crate::proofs::Words::unsigned_is))]
 pub fn unsigned(s: &[u8], at: usize) -> u32
     ensures { result ≡ unsigned s.now at }
 {
@@ -25,34 +24,35 @@ pub fn unsigned(s: &[u8], at: usize) -> u32
 }
 
 // An unsigned hyper integer, in two words.
-#[tactic(auto, using(crate::proofs::Words::hyper_is))]
 fn hyper(s: &[u8], at: usize) -> u64
     ensures { result ≡ hyper s.now at }
 {
     bytes_at(s, at).map_or(0, u64::from_be_bytes)
 }
 
-// The value of a pattern. `from_bits` is not defined on the patterns of NaN: a NaN is made by arithmetic.
+// The value of a pattern. `from_bits` is not defined on the patterns of NaN.
 pub fn value(bits: u64) -> f64
     ensures { result ≡ of_bits binary64 bits }
 {
     if bits % SIGN > INFINITY {
-        return 0.0 / 0.0;
+        return f64::NAN;
     }
     f64::from_bits(bits)
 }
 
 // The pattern of x. NaN has many: here it is QUIET_NAN.
+#[tactic(auto, using(crate::proofs::Patterns::nan_pattern))]
 pub fn pattern(x: f64) -> u64
     ensures { result ≡ to_bits binary64 x }
 {
-    if x != x {
+    if x.is_nan() {
         return QUIET_NAN;
     }
-    f64::to_bits(x)
+    x.to_bits()
 }
 
 // A double: the value of the pattern in two words.
+#[tactic(auto, unfolding(crate::specs::Xdr::double))]
 pub fn double(s: &[u8], at: usize) -> f64
     ensures { result ≡ double s.now at }
 {

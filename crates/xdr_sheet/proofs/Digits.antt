@@ -9,7 +9,6 @@ use lib.Dec.{ltb, lit<, lit≤}
 use Rattle.arithmetic.specs.Laws.Choices.{by_test}
 use Rattle.io.specs.Digits.{last_digits, IsDigitCount}
 use Rattle.xdr_sheet.specs.Text.{places, decimal, hexadecimal}
-use Rattle.xdr_sheet.specs.Laws.Lines.{few_places}
 
 -- ---- how many digits a number has: `Fewest` of the kit's `io` says the same as `places`
 less_one : (k : ℕ) → suc k - 1 ≡ k
@@ -54,9 +53,6 @@ places_is (suc f) n k h g =
     more_digits zero l g r = absurd (not-suc-le-zero g.0)
     more_digits (suc zero) l g r = absurd (not-le_of_lt g.1 l)
     more_digits (suc (suc k)) l g r = ap suc (r (suc k) (tenth n k l g))
-
-pub places_le : (n k : ℕ) → n < 2 ^ 64 → IsDigitCount 10 1 n k → k ≤ 20
-places_le n k h f = subst (λ (x : ℕ). x ≤ 20) (places_is 19 n k (lt_of_lt_of_le h (lit≤ tt)) f) (few_places 19 n)
 
 -- what `io::decimal` and `io::hex` put into their digits
 pub decimal_is : (n k : ℕ) → n < 2 ^ 64 → IsDigitCount 10 1 n k → last_digits 10 k n ≡ decimal n

@@ -26,7 +26,7 @@ ghost use Rattle.exports.specs.ToC.{handed_size, size_to_c, tally_after, handed_
 use cable_window::window::Window;
 use explicit_black::quote::Reply;
 use explicit_black::terms::OptionTerms;
-use inverse_gaussian::curves::{Allowance, Evaluation, SurvivalEvaluation};
+use inverse_gaussian::curves::Allowance;
 use xdr_sheet::tally::Tally;
 
 #[unsafe(no_mangle)]
@@ -134,36 +134,27 @@ pub extern "C" fn quoter_negative_abs_log_moneyness(f: f64, k: f64) -> f64
     bs_option_price::negative_abs_log_moneyness(f, k)
 }
 
+#[tactic(auto, using(inverse_gaussian::specs::Laws::Counted::first_value, inverse_gaussian::specs::Laws::Counted::first_spent))]
 #[unsafe(no_mangle)]
 pub extern "C" fn quoter_inverse_gaussian_cdf(x: f64, mu: f64) -> f64
     ensures { result ≡ inverse_gaussian_cdf x mu }
 {
-    match inverse_gaussian::curves::inverse_gaussian_cdf(x, mu, Allowance::new(1)) {
-        Evaluation::Value {
-            cdf,
-            sqrt_x: _,
-            a: _,
-            exponential: _,
-            rest: _,
-        } => cdf,
+    match inverse_gaussian::curves::inverse_gaussian_cdf(x, mu, &mut Allowance::new(1)) {
+        Ok(evaluation) => evaluation.value,
         // never: the one evaluation that it makes is allowed
-        Evaluation::Spent => 0.0,
+        Err(_) => 0.0,
     }
 }
 
+#[tactic(auto, using(inverse_gaussian::specs::Laws::Counted::first_value, inverse_gaussian::specs::Laws::Counted::first_spent))]
 #[unsafe(no_mangle)]
 pub extern "C" fn quoter_inverse_gaussian_survival(x: f64, mu: f64) -> f64
     ensures { result ≡ inverse_gaussian_survival x mu }
 {
-    match inverse_gaussian::curves::inverse_gaussian_survival(x, mu, Allowance::new(1)) {
-        SurvivalEvaluation::Value {
-            survival,
-            sqrt_x: _,
-            a: _,
-            rest: _,
-        } => survival,
+    match inverse_gaussian::curves::inverse_gaussian_survival(x, mu, &mut Allowance::new(1)) {
+        Ok(evaluation) => evaluation.value,
         // never: the one evaluation that it makes is allowed
-        SurvivalEvaluation::Spent => 0.0,
+        Err(_) => 0.0,
     }
 }
 
@@ -330,6 +321,7 @@ pub extern "C" fn quoter_sheet_quote(
 // The line that comes after those of so many finite answers, infinite answers and refusals, put at the start of `text`. Its letter, V, R, T
 // or S in ASCII, is returned, its length is written to `count`, and the tallies after it are written; or 0 is returned, and nothing is
 // written, where `text` has no room for it.
+#[tactic(auto, unfolding(xdr_sheet::specs::Internal::Lines::bytes_placed, xdr_sheet::specs::Internal::Lines::buffer_after))]
 #[unsafe(no_mangle)]
 pub extern "C" fn quoter_sheet_line(
     sheet: &[u8],

@@ -118,7 +118,7 @@ impl Call {
             .or_else(|| self.special_function())
             .or_else(|| self.bs_option_price())
             .or_else(|| self.inverse_gaussian())
-            .map(|value| Outcome::Number(value))
+            .map(Outcome::Number)
     }
 }
 

@@ -8,7 +8,7 @@ use xdr_sheet::text::reply_line;
 // Writes a reply as a sheet prints it, without the quote's number and the space after it.
 fn write_reply(rt: &impl Print, reply: Reply) -> io::Result<()> {
     let line = reply_line(1, reply);
-    let text = &line.bytes[..line.count()];
+    let text = line.as_slice();
     rt.write_all(text.strip_prefix(b"1 ").unwrap_or(text))
 }
 

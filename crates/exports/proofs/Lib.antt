@@ -1,2 +1,0 @@
--- Laws that only the proofs of the C interface cite.
-mod SheetLine

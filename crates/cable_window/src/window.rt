@@ -151,7 +151,21 @@ impl Window {
         self.put_word(COMMAND, 0);
     }
 
-    // A write of a word. Where the offset is refused the window is not touched.
+    // The window after a write of a word, by value.
+    #[tactic(auto, unfolding(crate::specs::Window::after_write))]
+    fn after_write(self, offset: u32, word: u32) -> Window
+        ensures { result.bytes ≡ after_write self.bytes offset word }
+    {
+        let mut after = self;
+        if offset == 0 {
+            after.command(word);
+        } else if is_writable(offset) {
+            after.put_word(offset as usize, word);
+        }
+        after
+    }
+
+    // A write of a word to a window that is lent. Where the offset is refused the window is not touched.
     #[tactic(auto, unfolding(crate::specs::Window::offset_refusal, crate::specs::Window::after_write))]
     pub fn write(&mut self, offset: u32, word: u32) -> Result<(), Refusal>
         ensures number { view_refusal result ≡ offset_refusal offset }
@@ -160,11 +174,7 @@ impl Window {
         if !is_writable(offset) {
             return Err(Refusal::UnwritableOffset);
         }
-        if offset == 0 {
-            self.command(word);
-        } else {
-            self.put_word(offset as usize, word);
-        }
+        *self = self.after_write(offset, word);
         Ok(())
     }
 }

@@ -1,5 +1,5 @@
 -- A search in a bracket for the point where a curve has a probability, for either curve; the contracts of the code that serves both cite it. For the
--- distribution it is the search of Quantile.antt, and for the survival that of Survival.antt, as proofs/Curves.antt proves. Definitions only.
+-- distribution it is the search of Quantile.antt, and for the survival that of Survival.antt, as proofs/Agree.antt proves. Definitions only.
 use Rattle.std.specs.Prelude.{◌≡◌, true, Bool, cond, Float}
 use Rattle.std.specs.Float.{binary64}
 use Rattle.std.specs.Float.Ieee.{lt, fits}

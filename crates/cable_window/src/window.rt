@@ -21,7 +21,7 @@ const COMMAND: usize = 0;
 
 const STATUS: usize = 4;
 
-const SIDE: usize = 8;
+const SIDE: u32 = 8;
 
 const PRICE: usize = 12;
 

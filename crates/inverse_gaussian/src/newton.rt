@@ -2,7 +2,7 @@
 ghost use Rattle.std.specs.Prelude.{◌≡◌, OnErr};
 ghost use Rattle.inverse_gaussian.specs.Counted.{limited, at_once, tick};
 ghost use Rattle.inverse_gaussian.specs.Loops.{go};
-ghost use Rattle.inverse_gaussian.specs.Internal.Searches.{metered, view_option, view_flow, step_at};
+ghost use Rattle.inverse_gaussian.specs.Internal.Searches.{metered, view_newton, view_option, view_flow, step_at};
 ghost use Rattle.inverse_gaussian.specs.Newton.{seed, initial_x, numerator, nrstep, converged, after_move, first, later, steps};
 ghost use Rattle.inverse_gaussian.specs.Newton.{inverse_gaussian_mode_standardized, inverse_gaussian_quantile_actuar};
 
@@ -51,41 +51,47 @@ fn after_move(x: f64, dx: f64, direction: f64, mu: f64) -> Stepped
     ControlFlow::Break(None)
 }
 
-// After the first step, made at x, whose sign the later ones keep.
-#[tactic(auto, unfolding(crate::specs::Newton::first))]
-pub fn first(step: Option<f64>, x: f64, mu: f64) -> Stepped
-    ensures { view_flow view_option result ≡ first mu x (view_option step) }
-{
-    let Some(dx) = step else {
-        return ControlFlow::Break(None);
-    };
-    after_move(x + dx, dx, signum(dx), mu)
+// A Newton step: a move, perhaps infinite, or the refusal to move where the density cannot be divided by.
+#[derive(Clone, Copy)]
+pub enum Newton {
+    Move(f64),
+    Refused,
 }
 
-// After a later step, made at x: one against the direction of the first is not taken, and x is the root.
-#[tactic(auto, unfolding(crate::specs::Newton::later))]
-pub fn later(step: Option<f64>, x: f64, direction: f64, mu: f64) -> Stepped
-    ensures { view_flow view_option result ≡ later mu x direction (view_option step) }
-{
-    let Some(dx) = step else {
-        return ControlFlow::Break(None);
-    };
-    if dx * direction < 0.0 {
-        return ControlFlow::Break(Some(x * mu));
+impl Newton {
+    // After the first step, made at x, whose sign the later ones keep.
+    #[tactic(auto, unfolding(crate::specs::Newton::first))]
+    pub fn first(self, x: f64, mu: f64) -> Stepped
+        ensures { view_flow view_option result ≡ first mu x (view_newton self) }
+    {
+        match self {
+            Newton::Move(dx) => after_move(x + dx, dx, signum(dx), mu),
+            Newton::Refused => ControlFlow::Break(None),
+        }
     }
-    after_move(x + dx, dx, direction, mu)
+
+    // After a later step, made at x: one against the direction of the first is not taken, and x is the root.
+    #[tactic(auto, unfolding(crate::specs::Newton::later))]
+    pub fn later(self, x: f64, direction: f64, mu: f64) -> Stepped
+        ensures { view_flow view_option result ≡ later mu x direction (view_newton self) }
+    {
+        match self {
+            Newton::Move(dx) if dx * direction < 0.0 => ControlFlow::Break(Some(x * mu)),
+            Newton::Move(dx) => after_move(x + dx, dx, direction, mu),
+            Newton::Refused => ControlFlow::Break(None),
+        }
+    }
 }
 
-// The step that would bring `error` to 0 where the density is `pdf`: perhaps infinite, and none where the density cannot
-// be divided by.
+// The step that would bring `error` to 0 where the density is `pdf`.
 #[tactic(auto, unfolding(crate::specs::Newton::nrstep))]
-pub fn nrstep(pdf: f64, error: f64) -> Option<f64>
-    ensures { view_option result ≡ nrstep pdf error }
+pub fn nrstep(pdf: f64, error: f64) -> Newton
+    ensures { view_newton result ≡ nrstep pdf error }
 {
     if is_finite_positive(pdf) {
-        return Some(error / pdf);
+        return Newton::Move(error / pdf);
     }
-    None
+    Newton::Refused
 }
 
 #[tactic(auto, unfolding(crate::specs::Newton::inverse_gaussian_mode_standardized))]
@@ -158,8 +164,8 @@ impl Steps {
 
     // The step at x, after one evaluation there: inlined, since a call in the loop costs a fiftieth of a quantile.
     #[inline(always)]
-    fn step_at(self, x: f64, allowed: &mut Allowance) -> Result<Option<f64>, Spent>
-        ensures metered { metered view_option result allowed.new.left
+    fn step_at(self, x: f64, allowed: &mut Allowance) -> Result<Newton, Spent>
+        ensures metered { metered view_newton result allowed.new.left
             ≡ limited allowed.old.left (tick (at_once (step_at x self.probability self.log_probability self.mu))) }
         ensures spent { OnErr result (allowed.new.left ≡ 0) }
     {
@@ -177,7 +183,7 @@ impl Steps {
         let (mut x, mut direction) = begin;
         for _ in 1u32..100 {
             let step = self.step_at(x, allowed)?;
-            match later(step, x, direction, self.mu) {
+            match step.later(x, direction, self.mu) {
                 ControlFlow::Break(root) => return Ok(root),
                 ControlFlow::Continue(next) => (x, direction) = next,
             }
@@ -200,7 +206,7 @@ pub fn inverse_gaussian_quantile_actuar(
         mu,
     };
     let x = steps.initial_x();
-    match first(steps.step_at(x, allowed)?, x, mu) {
+    match steps.step_at(x, allowed)?.first(x, mu) {
         ControlFlow::Break(root) => Ok(root),
         ControlFlow::Continue(next) => steps.after_first(next, allowed),
     }

@@ -2,7 +2,7 @@
 ghost use Rattle.std.specs.Prelude.{◌≡◌, true, OnErr};
 ghost use Rattle.inverse_gaussian.specs.Counted.{limited, some_of};
 ghost use Rattle.inverse_gaussian.specs.Curves.{finite_positive};
-ghost use Rattle.inverse_gaussian.specs.Internal.Searches.{metered, view_option, view_flow};
+ghost use Rattle.inverse_gaussian.specs.Internal.Searches.{metered, view_newton, view_option, view_flow};
 ghost use Rattle.inverse_gaussian.specs.Internal.Bracketed.{distribution};
 ghost use Rattle.inverse_gaussian.specs.Bracket.{doubled};
 ghost use Rattle.inverse_gaussian.specs.Quantile.{continue_at, moved};
@@ -13,7 +13,7 @@ use crate::curves::{Allowance, Evaluation, Spent, inverse_gaussian_cdf, pdf_by_e
 use crate::initial_guess::{
     inverse_gaussian_quantile_initial_guess, is_finite_positive, starting_point,
 };
-use crate::newton::{inverse_gaussian_quantile_actuar, nrstep};
+use crate::newton::{Newton, inverse_gaussian_quantile_actuar, nrstep};
 use crate::search::{Curve, Search};
 use arithmetic::basic::{abs, is_finite, max};
 use arithmetic::constants::MAX;
@@ -169,10 +169,10 @@ impl Curve for Evaluation {
 // A step within the tolerance, relative to x or to 1 if that is larger, leads to the root; any other to another
 // iteration.
 #[tactic(auto, unfolding(crate::specs::Quantile::moved))]
-fn moved(bracket: Bracket, x: f64, step: Option<f64>) -> ControlFlow<f64, (Bracket, f64)>
-    ensures { view_flow (λ r. r) result ≡ moved bracket x (view_option step) }
+fn moved(bracket: Bracket, x: f64, step: Newton) -> ControlFlow<f64, (Bracket, f64)>
+    ensures { view_flow (λ r. r) result ≡ moved bracket x (view_newton step) }
 {
-    let Some(dx) = step else {
+    let Newton::Move(dx) = step else {
         return continue_at(bracket, x, bracket_midpoint(bracket));
     };
     let next = x - dx;

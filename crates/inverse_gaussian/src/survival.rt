@@ -1,7 +1,7 @@
 // The quantile of a survival probability, which 1 - probability could not tell from 1 where it is small.
 ghost use Rattle.std.specs.Prelude.{◌≡◌, OnErr};
 ghost use Rattle.inverse_gaussian.specs.Counted.{limited};
-ghost use Rattle.inverse_gaussian.specs.Internal.Searches.{metered, view_option, view_flow};
+ghost use Rattle.inverse_gaussian.specs.Internal.Searches.{metered, view_newton, view_option, view_flow};
 ghost use Rattle.inverse_gaussian.specs.Survival.{far, survival_step, survival_newton, survival_moved, inverse_gaussian_quantile_from_survival};
 
 use crate::bracket::{Bracket, QUANTILE_BRACKET_TOLERANCE, bracket_is_tight, bracket_midpoint};
@@ -11,6 +11,7 @@ use crate::curves::{
 use crate::initial_guess::{
     inverse_gaussian_quantile_initial_guess_from_z, is_finite_positive, starting_point,
 };
+use crate::newton::Newton;
 use crate::quantile::is_solvable;
 use crate::search::{Curve, Search};
 use arithmetic::basic::{abs, min};
@@ -133,10 +134,10 @@ impl Curve for SurvivalEvaluation {
 // A step within the tolerance, relative to x, leads to the root; any other to another iteration. The survival
 // decreases, so that the step is added.
 #[tactic(auto, unfolding(crate::specs::Survival::survival_moved))]
-fn moved(bracket: Bracket, x: f64, step: Option<f64>) -> ControlFlow<f64, (Bracket, f64)>
-    ensures { view_flow (λ r. r) result ≡ survival_moved bracket x (view_option step) }
+fn moved(bracket: Bracket, x: f64, step: Newton) -> ControlFlow<f64, (Bracket, f64)>
+    ensures { view_flow (λ r. r) result ≡ survival_moved bracket x (view_newton step) }
 {
-    let Some(dx) = step else {
+    let Newton::Move(dx) = step else {
         return ControlFlow::Continue((bracket, bracket_midpoint(bracket)));
     };
     let next = x + dx;
@@ -165,11 +166,11 @@ fn survival_step(survival: f64, probability: f64, pdf: f64) -> f64
 }
 
 #[tactic(auto, unfolding(crate::specs::Survival::survival_newton))]
-fn survival_newton(survival: f64, probability: f64, pdf: f64) -> Option<f64>
-    ensures { view_option result ≡ survival_newton survival probability pdf }
+fn survival_newton(survival: f64, probability: f64, pdf: f64) -> Newton
+    ensures { view_newton result ≡ survival_newton survival probability pdf }
 {
     if is_finite_positive(pdf) {
-        return Some(survival_step(survival, probability, pdf));
+        return Newton::Move(survival_step(survival, probability, pdf));
     }
-    None
+    Newton::Refused
 }

@@ -56,10 +56,10 @@ pub fn quotes_in(sheet: &[u8]) -> Result<u32, Refused>
 }
 
 // The terms of the quote, or of the price, whose record starts at `at`. A figure whose bytes are not all there is read as 0.
-pub fn terms(s: &[u8], at: usize) -> OptionTerms
-    requires { at + quote_bytes < 2 ^ 64 }
+pub fn terms(s: &[u8], at: u32) -> OptionTerms
     ensures { result ≡ terms_at s.now at }
 {
+    let at = at as usize;
     OptionTerms {
         side: unsigned(s, at),
         forward: double(s, at + FORWARD),
@@ -70,12 +70,12 @@ pub fn terms(s: &[u8], at: usize) -> OptionTerms
 
 // The reply of the quote that starts at `at`.
 #[tactic(auto, unfolding(crate::specs::Sheet::reply_from))]
-fn quote(sheet: &[u8], at: usize) -> Reply
+fn quote(sheet: &[u8], at: u32) -> Reply
     requires { at + quote_bytes ≤ length sheet.now }
     ensures { view_reply result ≡ reply_from sheet.now at }
 {
-    let price = double(sheet, at + PRICE);
-    let factor = double(sheet, at + FACTOR);
+    let price = double(sheet, at as usize + PRICE);
+    let factor = double(sheet, at as usize + FACTOR);
     implied_black_volatility_discounted(terms(sheet, at), price, factor)
 }
 
@@ -86,7 +86,8 @@ pub fn reply(sheet: &[u8], index: u64) -> Option<Reply>
 {
     match quotes_in(sheet) {
         Ok(count) if index < count as u64 => {
-            Some(quote(sheet, COUNT_BYTES + QUOTE_BYTES * (index as usize)))
+            let at = COUNT_BYTES + QUOTE_BYTES * (index as usize);
+            Some(quote(sheet, at as u32))
         }
         Ok(_) => None,
         Err(refused) => Some(Err(refused)),

@@ -11,6 +11,8 @@ use Rattle.special_function.specs.NormalDistribution.{norm_pdf}
 use Rattle.special_function.specs.Internal.SharedExponential.{norm_pdf_of_square}
 use Rattle.inverse_gaussian.specs.declared.curves.Evaluation.{Evaluation}
 use Rattle.inverse_gaussian.specs.declared.curves.SurvivalEvaluation.{SurvivalEvaluation}
+use Rattle.inverse_gaussian.specs.declared.newton.Newton.{Newton}
+use Rattle.inverse_gaussian.specs.declared.newton.Newton.TheVariants.{Move, Refused}
 use Rattle.inverse_gaussian.specs.Counted.{Option, some, none, Sample, sample, Metered, have, spent}
 use Rattle.inverse_gaussian.specs.Loops.{Next, go, stop}
 use Rattle.inverse_gaussian.specs.Newton.{inverse_gaussian_cdf_standardized, inverse_gaussian_nrstep_standardized}
@@ -20,10 +22,15 @@ abbrev pub metered : {T E R : Type 0} → (T → R) → Result T E → ℕ → M
 metered view (Ok r) n = have (view r) n
 metered view (Err e) n = spent
 
--- a root, a move or a bracket, or none
+-- a root or a bracket, or none
 abbrev pub view_option : {T : Type 0} → Maybe T → Option T
 view_option (Some x) = some x
 view_option None = none
+
+-- a Newton step's move, or none
+abbrev pub view_newton : Newton → Option Float
+view_newton (Move dx) = some dx
+view_newton Refused = none
 
 -- what an iteration ends with, where what it stops with stands for `view` of that
 abbrev pub view_flow : {B C R : Type 0} → (B → R) → ControlFlow B C → Next C R

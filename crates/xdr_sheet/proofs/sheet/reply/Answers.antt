@@ -1,8 +1,11 @@
 -- `sheet::reply` meets its contract: the sheet's size and the index pick the case. Assumes nothing.
-use Rattle.std.proofs.Common.{ap, ◌∙◌}
+use Rattle.std.proofs.Common.{ap, ◌∙◌, arith}
 use Rattle.xdr_sheet.specs.Sheet.{replied}
-use Rattle.xdr_sheet.specs.Laws.Sheet.{quote_within, quote_there, quote_past}
+use Rattle.xdr_sheet.specs.Laws.Sheet.{quote_within, quote_there, quote_past, size_count}
 use Rattle.xdr_sheet.proofs.sheet.reply.Goals as goal
+
+pub overflow_cast-at : goal.overflow_cast-at
+overflow_cast-at c = omega (arith, size_count _ _ c.in-Ok.ensures, c.if-index-count.true)
 
 pub quote-requires : goal.quote-requires
 quote-requires c = quote_within _ _ c.args.index c.in-Ok.ensures c.if-index-count.true

@@ -8,7 +8,7 @@ use native.Mathlib.Omega.{arith}
 use lib.Ieee.{Float}
 use lib.Seq.{take_all}
 use lib.ListN.{length, take, get_or, set, length-map, get_or-map}
-use Rattle.arithmetic.specs.Laws.Slices.{written, write_next, written_length, written_all}
+use Rattle.arithmetic.specs.Laws.Slices.{written, write_next, written_all}
 use Rattle.explicit_black.specs.Quote.{Reply, refusal, implied_black_volatility_input}
 use Rattle.ladder.specs.Ladder.{total_of, volatility_of, count_of, number_of, takes_root, roots_after, replies, trues, root_places, length_refusal}
 use Rattle.ladder.specs.Ladder.{solved_ladder}

@@ -1,7 +1,5 @@
 -- `place::Shared::solve_place` meets its contract where tests 5 and 6 decide the total. Assumes nothing.
-use Rattle.std.proofs.Common.{◌≡◌, sym, ap}
-use Rattle.inverse_gaussian.specs.Counted.{some}
-use Rattle.explicit_black.specs.Quote.{total, bound_tests, intrinsic_value, price_bound}
+use Rattle.std.proofs.Common.{sym, ap}
 use Rattle.ladder.specs.Ladder.{roots_after}
 use Rattle.ladder.specs.Laws.Places.{decided_total, decided_root}
 use Rattle.ladder.proofs.place.Shared.solve_place.Goals as goal

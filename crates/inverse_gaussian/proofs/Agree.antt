@@ -11,7 +11,7 @@ use Rattle.inverse_gaussian.specs.Curves.{inverse_gaussian_cdf, inverse_gaussian
 use Rattle.inverse_gaussian.specs.Bracket.{doubled_from, doubling_loop, doublings, bracket_quantile_from_below, bracket_quantile_from_above}
 use Rattle.inverse_gaussian.specs.Quantile.{bracket_at, clamped, iterations}
 use Rattle.inverse_gaussian.specs.Survival.{survival_from_below, survival_from_above, survival_bracket_at, survival_iterations, survival_iterations_in}
-use Rattle.inverse_gaussian.specs.Internal.Bracketed.{upward_loop, upward, downward, narrowing, bracket_beside, root_in, search_from, stop_some}
+use Rattle.inverse_gaussian.specs.Internal.Bracketed.{upward_loop, upward, downward, narrowing, bracket_beside, root_in, root_from, stop_some}
 use Rattle.inverse_gaussian.specs.Internal.Bracketed.{distribution, survival}
 
 iterate_some : (mu p : Float) (k : ℕ) (n : Next Bracket Bracket)
@@ -45,10 +45,10 @@ module _ (mu p : Float) where
   unfolding narrowing iterations
   distribution_narrowing b x = refl
 
-  pub distribution_search : (x : Float) → search_from distribution x mu p
+  pub distribution_root_from : (x : Float) → root_from distribution x mu p
       ≡ some_of (tick (then (bracket_at x (inverse_gaussian_cdf x mu) mu p) (λ b. iterations mu p b (clamped b x))))
-  unfolding search_from
-  distribution_search x = rw (distribution_beside x (inverse_gaussian_cdf x mu), distribution_narrowing)
+  unfolding root_from
+  distribution_root_from x = rw (distribution_beside x (inverse_gaussian_cdf x mu), distribution_narrowing)
 
   survival_beside : (x v : Float) → bracket_beside survival x v mu p ≡ survival_bracket_at x v mu p
   unfolding bracket_beside survival_bracket_at upward downward survival_from_below survival_from_above
@@ -59,8 +59,8 @@ module _ (mu p : Float) where
   survival_in x (some b) = refl
   survival_in x none = refl
 
-  pub survival_search_from : (x : Float)
-      → search_from survival x mu p ≡ tick (then (survival_bracket_at x (inverse_gaussian_survival x mu) mu p) (survival_iterations_in mu p x))
-  unfolding search_from
-  survival_search_from x =
+  pub survival_root_from : (x : Float)
+      → root_from survival x mu p ≡ tick (then (survival_bracket_at x (inverse_gaussian_survival x mu) mu p) (survival_iterations_in mu p x))
+  unfolding root_from
+  survival_root_from x =
       rw (survival_beside x (inverse_gaussian_survival x mu), survival_in x (survival_bracket_at x (inverse_gaussian_survival x mu) mu p).result)

@@ -9,13 +9,13 @@ use Rattle.arithmetic.specs.Laws.Choices.{by_test, never}
 use Rattle.inverse_gaussian.specs.declared.bracket.Bracket.{Bracket}
 use Rattle.inverse_gaussian.specs.Counted.{Option, some, none, Counted, Sample, at_once, tick, then, some_of, or_else}
 use Rattle.inverse_gaussian.specs.Counted.{Metered, have, spent, limited}
-use Rattle.inverse_gaussian.specs.Loops.{Next}
+use Rattle.inverse_gaussian.specs.Loops.{Next, stop}
 use Rattle.inverse_gaussian.specs.Curves.{finite_positive, inverse_gaussian_pdf, starting_point}
-use Rattle.inverse_gaussian.specs.Newton.{initial_x, first, steps, inverse_gaussian_quantile_actuar}
+use Rattle.inverse_gaussian.specs.Newton.{initial_x, first, newton_loop, steps, inverse_gaussian_quantile_actuar}
 use Rattle.inverse_gaussian.specs.Quantile.{inverse_gaussian_quantile_bracketed, solvable, filtered, inverse_gaussian_quantile}
 use Rattle.inverse_gaussian.specs.Internal.Searches.{step_at}
-use Rattle.inverse_gaussian.specs.Internal.Bracketed.{Search, bracket_beside, narrowing, root_in, search_from}
-use Rattle.inverse_gaussian.specs.Laws.Counted.{limited_now, limited_none, limited_tick, then_spent, then_have, none_of, value_of}
+use Rattle.inverse_gaussian.specs.Internal.Bracketed.{Rules, bracket_beside, narrowing, root_in, root_from}
+use Rattle.inverse_gaussian.specs.Laws.Counted.{iterate_stop, limited_now, limited_none, limited_tick, then_spent, then_have, none_of, value_of}
 use Rattle.inverse_gaussian.proofs.Turns.{Told}
 
 -- ---- the starting point
@@ -52,17 +52,21 @@ module _ (p mu : Float) where
   unfolding inverse_gaussian_quantile_actuar
   from_step n {lp} {s = s} l e o g h = let v = value_of o in rw (← l, ← e, v.0, ← g) (after_value (steps p lp mu s) v.1 h)
 
+pub no_more_steps : (p lp mu : Float) (m : ℕ) (t : Option Float) → have t m ≡ limited m (steps p lp mu (stop t))
+unfolding steps
+no_more_steps p lp mu m t = rw (iterate_stop (newton_loop p lp mu) 99 t) (sym (limited_now m t))
+
 -- ---- a search in a bracket: one evaluation, a bracket, and the iterations in it; no root where there is no bracket
 
-module _ (s : Search) (x mu p : Float) where
-  pub no_start : (n : ℕ) (w : Sample) → spent ≡ limited n (tick (at_once w)) → spent ≡ limited n (search_from s x mu p)
-  unfolding search_from
+module _ (r : Rules) (x mu p : Float) where
+  pub no_start : (n : ℕ) (w : Sample) → spent ≡ limited n (tick (at_once w)) → spent ≡ limited n (root_from r x mu p)
+  unfolding root_from
   no_start n w e = no_value n _ w e
 
-  pub from_start : {v d : Float} {n m : ℕ} {q : Metered (Option Float)} → Told (s.curve x mu) (inverse_gaussian_pdf x mu) n v d m
-      → q ≡ limited m (then (bracket_beside s x v mu p) (root_in (λ b. narrowing s mu p b (s.begin b x)))) → q ≡ limited n (search_from s x mu p)
-  unfolding search_from
-  from_start {v} o h = rw o.value (after_value (then (bracket_beside s x v mu p) (root_in (λ b. narrowing s mu p b (s.begin b x)))) o.one_fewer h)
+  pub from_start : {v d : Float} {n m : ℕ} {q : Metered (Option Float)} → Told (r.curve x mu) (inverse_gaussian_pdf x mu) n v d m
+      → q ≡ limited m (then (bracket_beside r x v mu p) (root_in (λ b. narrowing r mu p b (r.begin b x)))) → q ≡ limited n (root_from r x mu p)
+  unfolding root_from
+  from_start {v} o h = rw o.value (after_value (then (bracket_beside r x v mu p) (root_in (λ b. narrowing r mu p b (r.begin b x)))) o.one_fewer h)
 
 module _ (n : ℕ) (c : Counted (Option Bracket)) (f : Bracket → Counted Float) where
   pub no_bracket : spent ≡ limited n c → spent ≡ limited n (then c (root_in f))
@@ -83,17 +87,19 @@ unsolvable p mu n e = rw e (sym (limited_now n none))
 
 -- t is what the Newton steps gave, and the filter leaves f of it
 module _ (p mu : Float) (n : ℕ) (s : solvable p mu ≡ true) where
+  abbrev or_bracketed : Option Float → Counted (Option Float)
+  or_bracketed f = some_of (or_else f (inverse_gaussian_quantile_bracketed p mu))
+
   pub newton_spent : spent ≡ limited n (inverse_gaussian_quantile_actuar p mu) → spent ≡ limited n (inverse_gaussian_quantile p mu)
   unfolding inverse_gaussian_quantile
-  newton_spent e = rw s (then_spent n (inverse_gaussian_quantile_actuar p mu) (λ t. some_of (or_else (filtered t) (inverse_gaussian_quantile_bracketed p mu))) e)
+  newton_spent e = rw s (then_spent n (inverse_gaussian_quantile_actuar p mu) (λ t. or_bracketed (filtered t)) e)
 
   after_newton : {t f : Option Float} {m : ℕ} {q : Metered (Option Float)}
-      → have t m ≡ limited n (inverse_gaussian_quantile_actuar p mu) → f ≡ filtered t
-      → q ≡ limited m (some_of (or_else f (inverse_gaussian_quantile_bracketed p mu))) → q ≡ limited n (inverse_gaussian_quantile p mu)
+      → have t m ≡ limited n (inverse_gaussian_quantile_actuar p mu) → f ≡ filtered t → q ≡ limited m (or_bracketed f)
+      → q ≡ limited n (inverse_gaussian_quantile p mu)
   unfolding inverse_gaussian_quantile
   after_newton {t} {f} {m} {q} e g h =
-      rw s (then_have n m (inverse_gaussian_quantile_actuar p mu) (λ t. some_of (or_else (filtered t) (inverse_gaussian_quantile_bracketed p mu))) t q e
-      (rw (sym g) h))
+      rw s (then_have n m (inverse_gaussian_quantile_actuar p mu) (λ t. or_bracketed (filtered t)) t q e (rw (sym g) h))
 
   pub newton_root : {t : Option Float} {x : Float} {m : ℕ}
       → have t m ≡ limited n (inverse_gaussian_quantile_actuar p mu) → some x ≡ filtered t → have (some x) m ≡ limited n (inverse_gaussian_quantile p mu)

@@ -7,7 +7,8 @@ use lib.Ieee.{Float, binary64, fits, neg}
 use lib.Ieee.Bits.{is_true}
 use Rattle.special_function.specs.NormalDistribution.{inverse_norm_cdf}
 use Rattle.inverse_gaussian.specs.Loops.{go, Ends}
-use Rattle.inverse_gaussian.specs.Curves.{finite_positive, inverse_gaussian_quantile_initial_guess, inverse_gaussian_quantile_initial_guess_from_z, starting_point}
+use Rattle.inverse_gaussian.specs.Curves.{finite_positive, starting_point}
+use Rattle.inverse_gaussian.specs.Curves.{inverse_gaussian_quantile_initial_guess, inverse_gaussian_quantile_initial_guess_from_z}
 use Rattle.inverse_gaussian.specs.Bracket.{doubled_from, doubling_loop, doublings, halved, halving_loop, halvings}
 use Rattle.inverse_gaussian.specs.Survival.{capped_from, survival_doubling_loop, survival_halving_loop}
 use Rattle.inverse_gaussian.specs.Laws.Roots.{guess_fits}
@@ -41,7 +42,8 @@ module _ (p mu : Float) (h : finite_positive mu ≡ true) (f : fits binary64 mu 
   survival_fits = is_true _ (guess_fits (neg (inverse_norm_cdf p)) mu (subst T (sym f) tt))
 
   survival_finite_positive : finite_positive (survival_start p mu) ≡ true
-  survival_finite_positive = start_finite_positive (inverse_gaussian_quantile_initial_guess_from_z (neg (inverse_norm_cdf p)) mu) mu (survival_start p mu) h refl
+  survival_finite_positive =
+      start_finite_positive (inverse_gaussian_quantile_initial_guess_from_z (neg (inverse_norm_cdf p)) mu) mu (survival_start p mu) h refl
 
   survival_doubling_ends : Ends (survival_doubling_loop mu p) doublings (go (capped_from (survival_start p mu)))
   survival_doubling_ends = survival_ends_below mu p (survival_start p mu) survival_finite_positive survival_fits

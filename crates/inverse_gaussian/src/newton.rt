@@ -1,8 +1,9 @@
 // The quantile by Newton steps on the standardised variable x / mu.
 ghost use Rattle.std.specs.Prelude.{◌≡◌, OnErr};
 ghost use Rattle.inverse_gaussian.specs.Counted.{limited, at_once, tick};
+ghost use Rattle.inverse_gaussian.specs.Loops.{go};
 ghost use Rattle.inverse_gaussian.specs.Internal.Searches.{metered, view_option, view_flow, step_at};
-ghost use Rattle.inverse_gaussian.specs.Newton.{seed, initial_x, numerator, nrstep, converged, after_move, first, later, last, steps};
+ghost use Rattle.inverse_gaussian.specs.Newton.{seed, initial_x, numerator, nrstep, converged, after_move, first, later, steps};
 ghost use Rattle.inverse_gaussian.specs.Newton.{inverse_gaussian_mode_standardized, inverse_gaussian_quantile_actuar};
 
 use crate::curves::{Allowance, Spent, inverse_gaussian_cdf};
@@ -27,38 +28,6 @@ const RIGHT_SMALL_PROBABILITY_LOG_THRESHOLD: f64 = -1.0e-5;
 // After a step: the root; none, where the step was refused or left the values that are finite and above 0;
 // or the point of the next step, with the direction of the first move.
 pub type Stepped = ControlFlow<Option<f64>, (f64, f64)>;
-
-// The mode; in the far left tail and in the far right one a guess for that tail.
-#[tactic(auto, unfolding(crate::specs::Newton::seed))]
-fn seed(probability: f64, log_probability: f64, mu: f64) -> f64
-    ensures { result ≡ seed probability log_probability mu }
-{
-    if log_probability < LEFT_SMALL_PROBABILITY_LOG_THRESHOLD {
-        let z = inverse_norm_cdf(probability);
-        return 1.0 / (mu * z * z);
-    }
-    let mode = inverse_gaussian_mode_standardized(mu);
-    if log_probability > RIGHT_SMALL_PROBABILITY_LOG_THRESHOLD {
-        return max(
-            inverse_gaussian_quantile_initial_guess(probability, mu) / mu,
-            mode,
-        );
-    }
-    mode
-}
-
-// Where the steps start: the seed; where that is not finite and above 0 the mode, or the smallest normal value
-// if that is larger.
-#[tactic(auto, unfolding(crate::specs::Newton::initial_x))]
-fn initial_x(probability: f64, log_probability: f64, mu: f64) -> f64
-    ensures { result ≡ initial_x probability log_probability mu }
-{
-    let x = seed(probability, log_probability, mu);
-    if is_finite_positive(x) {
-        return x;
-    }
-    max(inverse_gaussian_mode_standardized(mu), MIN_POSITIVE)
-}
 
 // A relative tolerance: an absolute one would accept a first step far from a small root.
 #[tactic(auto, unfolding(crate::specs::Newton::converged))]
@@ -107,75 +76,16 @@ pub fn later(step: Option<f64>, x: f64, direction: f64, mu: f64) -> Stepped
     after_move(x + dx, dx, direction, mu)
 }
 
-// After the last step that may be made its point is the root.
-pub fn last(stepped: Stepped, mu: f64) -> Option<f64>
-    ensures { view_option result ≡ last mu (view_flow view_option stepped) }
+// The step that would bring `error` to 0 where the density is `pdf`: perhaps infinite, and none where the density cannot
+// be divided by.
+#[tactic(auto, unfolding(crate::specs::Newton::nrstep))]
+pub fn nrstep(pdf: f64, error: f64) -> Option<f64>
+    ensures { view_option result ≡ nrstep pdf error }
 {
-    match stepped {
-        ControlFlow::Break(root) => root,
-        ControlFlow::Continue((x, _)) => Some(x * mu),
+    if is_finite_positive(pdf) {
+        return Some(error / pdf);
     }
-}
-
-// The steps after the first, of which there are at most 99.
-fn steps(
-    begin: Stepped,
-    probability: f64,
-    log_probability: f64,
-    mu: f64,
-    allowed: &mut Allowance,
-) -> Result<Option<f64>, Spent>
-    ensures metered { metered view_option result allowed.new.left
-        ≡ limited allowed.old.left (steps probability log_probability mu (view_flow view_option begin)) }
-    ensures spent { OnErr result (allowed.new.left ≡ 0) }
-{
-    let mut next = begin;
-    for _ in 1u32..100 {
-        match next {
-            ControlFlow::Break(root) => return Ok(root),
-            ControlFlow::Continue((x, direction)) => {
-                let step = step_at(x, probability, log_probability, mu, allowed)?;
-                next = later(step, x, direction, mu);
-            }
-        }
-    }
-    Ok(last(next, mu))
-}
-
-// The Newton step at x, after one evaluation there.
-fn step_at(
-    x: f64,
-    probability: f64,
-    log_probability: f64,
-    mu: f64,
-    allowed: &mut Allowance,
-) -> Result<Option<f64>, Spent>
-    ensures metered { metered view_option result allowed.new.left ≡ limited allowed.old.left (tick (at_once (step_at x probability log_probability mu))) }
-    ensures spent { OnErr result (allowed.new.left ≡ 0) }
-{
-    let evaluation = inverse_gaussian_cdf(x * mu, mu, allowed)?;
-    let error = numerator(evaluation.value, probability, log_probability);
-    Ok(nrstep(mu * evaluation.density(x * mu), error))
-}
-
-pub fn inverse_gaussian_quantile_actuar(
-    probability: f64,
-    mu: f64,
-    allowed: &mut Allowance,
-) -> Result<Option<f64>, Spent>
-    ensures metered { metered view_option result allowed.new.left ≡ limited allowed.old.left (inverse_gaussian_quantile_actuar probability mu) }
-    ensures spent { OnErr result (allowed.new.left ≡ 0) }
-{
-    let log_probability = ln(probability);
-    let x = initial_x(probability, log_probability, mu);
-    let step = step_at(x, probability, log_probability, mu, allowed)?;
-    steps(
-        first(step, x, mu),
-        probability,
-        log_probability,
-        mu,
-        allowed,
-    )
+    None
 }
 
 #[tactic(auto, unfolding(crate::specs::Newton::inverse_gaussian_mode_standardized))]
@@ -191,30 +101,107 @@ pub fn inverse_gaussian_mode_standardized(phi: f64) -> f64
     reciprocal * (1.0 - reciprocal * reciprocal)
 }
 
-// The error of `cdf`, by logarithms where it is close to the probability.
-#[tactic(auto, unfolding(crate::specs::Newton::numerator))]
-fn numerator(cdf: f64, probability: f64, log_probability: f64) -> f64
-    ensures { result ≡ numerator cdf probability log_probability }
-{
-    if cdf > 0.0 {
-        let delta_log_probability = log_probability - ln(cdf);
-        if abs(delta_log_probability) < 1.0e-5 {
-            return delta_log_probability
-                * exp(plus_ln_1p(log_probability, -0.5 * delta_log_probability));
-        }
-        return probability - cdf;
-    }
-    probability
+// The steps to the point, divided by mu, where the distribution with mean mu has the probability.
+#[derive(Clone, Copy)]
+struct Steps {
+    probability: f64,
+    log_probability: f64,
+    mu: f64,
 }
 
-// The step that would bring `error` to 0 where the density is `pdf`: perhaps infinite, and none where the density cannot
-// be divided by.
-#[tactic(auto, unfolding(crate::specs::Newton::nrstep))]
-pub fn nrstep(pdf: f64, error: f64) -> Option<f64>
-    ensures { view_option result ≡ nrstep pdf error }
-{
-    if is_finite_positive(pdf) {
-        return Some(error / pdf);
+impl Steps {
+    // The mode; in the far left tail and in the far right one a guess for that tail.
+    #[tactic(auto, unfolding(crate::specs::Newton::seed))]
+    fn seed(self) -> f64
+        ensures { result ≡ seed self.probability self.log_probability self.mu }
+    {
+        if self.log_probability < LEFT_SMALL_PROBABILITY_LOG_THRESHOLD {
+            let z = inverse_norm_cdf(self.probability);
+            return 1.0 / (self.mu * z * z);
+        }
+        let mode = inverse_gaussian_mode_standardized(self.mu);
+        if self.log_probability > RIGHT_SMALL_PROBABILITY_LOG_THRESHOLD {
+            let guess = inverse_gaussian_quantile_initial_guess(self.probability, self.mu);
+            return max(guess / self.mu, mode);
+        }
+        mode
     }
-    None
+
+    // Where the steps start: the seed; where that is not finite and above 0 the mode, or the smallest normal value
+    // if that is larger.
+    #[tactic(auto, unfolding(crate::specs::Newton::initial_x))]
+    fn initial_x(self) -> f64
+        ensures { result ≡ initial_x self.probability self.log_probability self.mu }
+    {
+        let x = self.seed();
+        if is_finite_positive(x) {
+            return x;
+        }
+        max(inverse_gaussian_mode_standardized(self.mu), MIN_POSITIVE)
+    }
+
+    // The error of `cdf`, by logarithms where it is close to the probability.
+    #[tactic(auto, unfolding(crate::specs::Newton::numerator))]
+    fn numerator(self, cdf: f64) -> f64
+        ensures { result ≡ numerator cdf self.probability self.log_probability }
+    {
+        if cdf > 0.0 {
+            let delta_log_probability = self.log_probability - ln(cdf);
+            if abs(delta_log_probability) < 1.0e-5 {
+                return delta_log_probability
+                    * exp(plus_ln_1p(self.log_probability, -0.5 * delta_log_probability));
+            }
+            return self.probability - cdf;
+        }
+        self.probability
+    }
+
+    // The step at x, after one evaluation there: inlined, since a call in the loop costs a fiftieth of a quantile.
+    #[inline(always)]
+    fn step_at(self, x: f64, allowed: &mut Allowance) -> Result<Option<f64>, Spent>
+        ensures metered { metered view_option result allowed.new.left
+            ≡ limited allowed.old.left (tick (at_once (step_at x self.probability self.log_probability self.mu))) }
+        ensures spent { OnErr result (allowed.new.left ≡ 0) }
+    {
+        let evaluation = inverse_gaussian_cdf(x * self.mu, self.mu, allowed)?;
+        let error = self.numerator(evaluation.value);
+        Ok(nrstep(self.mu * evaluation.density(x * self.mu), error))
+    }
+
+    // The steps after the first, of which there are at most 99; after the last its point is the root.
+    fn after_first(self, begin: (f64, f64), allowed: &mut Allowance) -> Result<Option<f64>, Spent>
+        ensures metered { metered view_option result allowed.new.left
+            ≡ limited allowed.old.left (steps self.probability self.log_probability self.mu (go begin)) }
+        ensures spent { OnErr result (allowed.new.left ≡ 0) }
+    {
+        let (mut x, mut direction) = begin;
+        for _ in 1u32..100 {
+            let step = self.step_at(x, allowed)?;
+            match later(step, x, direction, self.mu) {
+                ControlFlow::Break(root) => return Ok(root),
+                ControlFlow::Continue(next) => (x, direction) = next,
+            }
+        }
+        Ok(Some(x * self.mu))
+    }
+}
+
+pub fn inverse_gaussian_quantile_actuar(
+    probability: f64,
+    mu: f64,
+    allowed: &mut Allowance,
+) -> Result<Option<f64>, Spent>
+    ensures metered { metered view_option result allowed.new.left ≡ limited allowed.old.left (inverse_gaussian_quantile_actuar probability mu) }
+    ensures spent { OnErr result (allowed.new.left ≡ 0) }
+{
+    let steps = Steps {
+        probability,
+        log_probability: ln(probability),
+        mu,
+    };
+    let x = steps.initial_x();
+    match first(steps.step_at(x, allowed)?, x, mu) {
+        ControlFlow::Break(root) => Ok(root),
+        ControlFlow::Continue(next) => steps.after_first(next, allowed),
+    }
 }

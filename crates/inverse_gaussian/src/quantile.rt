@@ -5,7 +5,7 @@ ghost use Rattle.inverse_gaussian.specs.Curves.{finite_positive};
 ghost use Rattle.inverse_gaussian.specs.Internal.Searches.{metered, view_option, view_flow};
 ghost use Rattle.inverse_gaussian.specs.Internal.Bracketed.{distribution};
 ghost use Rattle.inverse_gaussian.specs.Bracket.{doubled};
-ghost use Rattle.inverse_gaussian.specs.Quantile.{continue_at, moved};
+ghost use Rattle.inverse_gaussian.specs.Quantile.{continue_at, moved, iteration};
 ghost use Rattle.inverse_gaussian.specs.Quantile.{solvable, filtered, inverse_gaussian_quantile, inverse_gaussian_quantile_bracketed};
 
 use crate::bracket::{Bracket, QUANTILE_BRACKET_TOLERANCE, bracket_is_tight, bracket_midpoint};
@@ -14,7 +14,7 @@ use crate::initial_guess::{
     inverse_gaussian_quantile_initial_guess, is_finite_positive, starting_point,
 };
 use crate::newton::{inverse_gaussian_quantile_actuar, nrstep};
-use crate::search::{Curve, search_from};
+use crate::search::{Curve, Search};
 use arithmetic::basic::{abs, is_finite, max};
 use arithmetic::constants::MAX;
 use std::ops::ControlFlow;
@@ -62,8 +62,13 @@ pub(crate) fn inverse_gaussian_quantile_bracketed(
         ≡ limited allowed.old.left (some_of (inverse_gaussian_quantile_bracketed probability mu)) }
     ensures spent { OnErr result (allowed.new.left ≡ 0) }
 {
-    let x = starting_point(inverse_gaussian_quantile_initial_guess(probability, mu), mu);
-    search_from::<Evaluation>(x, mu, probability, allowed)
+    let start = starting_point(inverse_gaussian_quantile_initial_guess(probability, mu), mu);
+    let search = Search {
+        start,
+        mu,
+        probability,
+    };
+    search.root::<Evaluation>(allowed)
 }
 
 // Twice x, or the largest finite value where that is not finite.
@@ -82,7 +87,7 @@ impl Curve for Evaluation {
     ghost use Rattle.inverse_gaussian.specs.Laws.DoublingEnds.{distribution_upward_ends};
     ghost use Rattle.inverse_gaussian.specs.Laws.HalvingEnds.{distribution_downward_ends};
 
-    ghost search = { distribution };
+    ghost rules = { distribution };
 
     ghost value_of = { λ e. e.value };
 
@@ -141,7 +146,6 @@ impl Curve for Evaluation {
         bracket.clamped(x)
     }
 
-    #[tactic(auto, unfolding(crate::specs::Quantile::iteration, crate::specs::Quantile::tight_or))]
     fn iteration(
         bracket: Bracket,
         x: f64,
@@ -149,41 +153,57 @@ impl Curve for Evaluation {
         pdf: f64,
         probability: f64,
     ) -> ControlFlow<f64, (Bracket, f64)> {
-        let error = value - probability;
+        bracket.iteration(x, value, pdf, probability)
+    }
+}
+
+impl Bracket {
+    // Another iteration at `next`, unless that is x again: then nothing would change, and the midpoint is the root.
+    #[tactic(auto, unfolding(crate::specs::Quantile::continue_at))]
+    fn continue_at(self, x: f64, next: f64) -> ControlFlow<f64, (Bracket, f64)>
+        ensures { view_flow (λ r. r) result ≡ continue_at self x next }
+    {
+        if next == x {
+            return ControlFlow::Break(bracket_midpoint(self));
+        }
+        ControlFlow::Continue((self, next))
+    }
+
+    // A step within the tolerance, relative to x or to 1 if that is larger, leads to the root; any other to another
+    // iteration.
+    #[tactic(auto, unfolding(crate::specs::Quantile::moved))]
+    fn moved(self, x: f64, step: Option<f64>) -> ControlFlow<f64, (Bracket, f64)>
+        ensures { view_flow (λ r. r) result ≡ moved self x (view_option step) }
+    {
+        let Some(dx) = step else {
+            return self.continue_at(x, bracket_midpoint(self));
+        };
+        let next = x - dx;
+        if abs(dx) <= QUANTILE_BRACKET_TOLERANCE * max(x, 1.0) {
+            return ControlFlow::Break(next);
+        }
+        self.continue_at(x, self.chosen(next))
+    }
+
+    // One iteration, at x, where the distribution is `cdf` and the density `pdf`.
+    #[tactic(auto, unfolding(crate::specs::Quantile::iteration, crate::specs::Quantile::tight_or))]
+    pub fn iteration(
+        self,
+        x: f64,
+        cdf: f64,
+        pdf: f64,
+        probability: f64,
+    ) -> ControlFlow<f64, (Bracket, f64)>
+        ensures { view_flow (λ r. r) result ≡ iteration pdf probability (self, x) cdf }
+    {
+        let error = cdf - probability;
         if error == 0.0 {
             return ControlFlow::Break(x);
         }
-        let narrower = bracket.narrowed(x, error <= 0.0);
-        if bracket_is_tight(narrower) {
-            return ControlFlow::Break(bracket_midpoint(narrower));
+        let bracket = self.narrowed(x, error <= 0.0);
+        if bracket_is_tight(bracket) {
+            return ControlFlow::Break(bracket_midpoint(bracket));
         }
-        moved(narrower, x, nrstep(pdf, error))
+        bracket.moved(x, nrstep(pdf, error))
     }
-}
-
-// A step within the tolerance, relative to x or to 1 if that is larger, leads to the root; any other to another
-// iteration.
-#[tactic(auto, unfolding(crate::specs::Quantile::moved))]
-fn moved(bracket: Bracket, x: f64, step: Option<f64>) -> ControlFlow<f64, (Bracket, f64)>
-    ensures { view_flow (λ r. r) result ≡ moved bracket x (view_option step) }
-{
-    let Some(dx) = step else {
-        return continue_at(bracket, x, bracket_midpoint(bracket));
-    };
-    let next = x - dx;
-    if abs(dx) <= QUANTILE_BRACKET_TOLERANCE * max(x, 1.0) {
-        return ControlFlow::Break(next);
-    }
-    continue_at(bracket, x, bracket.chosen(next))
-}
-
-// Another iteration at `next`, unless that is x again: then nothing would change, and the midpoint is the root.
-#[tactic(auto, unfolding(crate::specs::Quantile::continue_at))]
-fn continue_at(bracket: Bracket, x: f64, next: f64) -> ControlFlow<f64, (Bracket, f64)>
-    ensures { view_flow (λ r. r) result ≡ continue_at bracket x next }
-{
-    if next == x {
-        return ControlFlow::Break(bracket_midpoint(bracket));
-    }
-    ControlFlow::Continue((bracket, next))
 }

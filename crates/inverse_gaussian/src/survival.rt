@@ -2,7 +2,8 @@
 ghost use Rattle.std.specs.Prelude.{◌≡◌, OnErr};
 ghost use Rattle.inverse_gaussian.specs.Counted.{limited};
 ghost use Rattle.inverse_gaussian.specs.Internal.Searches.{metered, view_option, view_flow};
-ghost use Rattle.inverse_gaussian.specs.Survival.{far, survival_step, survival_newton, survival_moved, inverse_gaussian_quantile_from_survival};
+ghost use Rattle.inverse_gaussian.specs.Survival.{far, survival_step, survival_newton, survival_moved, survival_iteration};
+ghost use Rattle.inverse_gaussian.specs.Survival.{inverse_gaussian_quantile_from_survival};
 
 use crate::bracket::{Bracket, QUANTILE_BRACKET_TOLERANCE, bracket_is_tight, bracket_midpoint};
 use crate::curves::{
@@ -12,7 +13,7 @@ use crate::initial_guess::{
     inverse_gaussian_quantile_initial_guess_from_z, is_finite_positive, starting_point,
 };
 use crate::quantile::is_solvable;
-use crate::search::{Curve, search_from};
+use crate::search::{Curve, Search};
 use arithmetic::basic::{abs, min};
 use arithmetic::constants::MAX;
 use arithmetic::ln::ln;
@@ -32,8 +33,13 @@ pub fn inverse_gaussian_quantile_from_survival(
         return Ok(None);
     }
     let z = -inverse_norm_cdf(probability);
-    let x = starting_point(inverse_gaussian_quantile_initial_guess_from_z(z, mu), mu);
-    search_from::<SurvivalEvaluation>(x, mu, probability, allowed)
+    let start = starting_point(inverse_gaussian_quantile_initial_guess_from_z(z, mu), mu);
+    let search = Search {
+        start,
+        mu,
+        probability,
+    };
+    search.root::<SurvivalEvaluation>(allowed)
 }
 
 // The survival decreases, so that the root is above a value that is above the probability.
@@ -43,7 +49,7 @@ impl Curve for SurvivalEvaluation {
     ghost use Rattle.inverse_gaussian.specs.Laws.DoublingEnds.{survival_upward_ends};
     ghost use Rattle.inverse_gaussian.specs.Laws.HalvingEnds.{survival_downward_ends};
 
-    ghost search = { survival };
+    ghost rules = { survival };
 
     ghost value_of = { λ e. e.value };
 
@@ -105,7 +111,6 @@ impl Curve for SurvivalEvaluation {
         x
     }
 
-    #[tactic(auto, unfolding(crate::specs::Survival::survival_iteration, crate::specs::Survival::survival_tight_or))]
     fn iteration(
         bracket: Bracket,
         x: f64,
@@ -113,32 +118,48 @@ impl Curve for SurvivalEvaluation {
         pdf: f64,
         probability: f64,
     ) -> ControlFlow<f64, (Bracket, f64)> {
-        let error = value - probability;
-        if error == 0.0 {
-            return ControlFlow::Break(x);
-        }
-        let narrower = bracket.narrowed(x, error > 0.0);
-        if bracket_is_tight(narrower) {
-            return ControlFlow::Break(bracket_midpoint(narrower));
-        }
-        moved(narrower, x, survival_newton(value, probability, pdf))
+        bracket.survival_iteration(x, value, pdf, probability)
     }
 }
 
-// A step within the tolerance, relative to x, leads to the root; any other to another iteration. The survival
-// decreases, so that the step is added.
-#[tactic(auto, unfolding(crate::specs::Survival::survival_moved))]
-fn moved(bracket: Bracket, x: f64, step: Option<f64>) -> ControlFlow<f64, (Bracket, f64)>
-    ensures { view_flow (λ r. r) result ≡ survival_moved bracket x (view_option step) }
-{
-    let Some(dx) = step else {
-        return ControlFlow::Continue((bracket, bracket_midpoint(bracket)));
-    };
-    let next = x + dx;
-    if abs(dx) <= QUANTILE_BRACKET_TOLERANCE * x {
-        return ControlFlow::Break(next);
+impl Bracket {
+    // A step within the tolerance, relative to x, leads to the root; any other to another iteration. The survival
+    // decreases, so that the step is added.
+    #[tactic(auto, unfolding(crate::specs::Survival::survival_moved))]
+    fn survival_moved(self, x: f64, step: Option<f64>) -> ControlFlow<f64, (Bracket, f64)>
+        ensures { view_flow (λ r. r) result ≡ survival_moved self x (view_option step) }
+    {
+        let Some(dx) = step else {
+            return ControlFlow::Continue((self, bracket_midpoint(self)));
+        };
+        let next = x + dx;
+        if abs(dx) <= QUANTILE_BRACKET_TOLERANCE * x {
+            return ControlFlow::Break(next);
+        }
+        ControlFlow::Continue((self, self.chosen(next)))
     }
-    ControlFlow::Continue((bracket, bracket.chosen(next)))
+
+    // One iteration, at x, where the survival is `survival` and the density `pdf`.
+    #[tactic(auto, unfolding(crate::specs::Survival::survival_iteration, crate::specs::Survival::survival_tight_or))]
+    pub fn survival_iteration(
+        self,
+        x: f64,
+        survival: f64,
+        pdf: f64,
+        probability: f64,
+    ) -> ControlFlow<f64, (Bracket, f64)>
+        ensures { view_flow (λ r. r) result ≡ survival_iteration pdf probability (self, x) survival }
+    {
+        let error = survival - probability;
+        if error == 0.0 {
+            return ControlFlow::Break(x);
+        }
+        let bracket = self.narrowed(x, error > 0.0);
+        if bracket_is_tight(bracket) {
+            return ControlFlow::Break(bracket_midpoint(bracket));
+        }
+        bracket.survival_moved(x, survival_newton(survival, probability, pdf))
+    }
 }
 
 // Whether the survival is above 0 and differs from the probability by more than half of it.

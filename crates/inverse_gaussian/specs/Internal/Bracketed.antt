@@ -1,5 +1,5 @@
 -- A search in a bracket for the point where a curve has a probability, for either curve; the contracts of the code that serves both cite it. For the
--- distribution it is the search of Quantile.antt, and for the survival that of Survival.antt, as proofs/Curves.antt proves. Definitions only.
+-- distribution it is the search of Quantile.antt, and for the survival that of Survival.antt, as proofs/Agree.antt proves. Definitions only.
 use Rattle.std.specs.Prelude.{◌≡◌, true, Bool, cond, Float}
 use Rattle.std.specs.Float.{binary64}
 use Rattle.std.specs.Float.Ieee.{lt, fits}
@@ -12,7 +12,7 @@ use Rattle.inverse_gaussian.specs.Quantile.{clamped, iteration}
 use Rattle.inverse_gaussian.specs.Survival.{capped_from, survival_widened, survival_lowered, survival_iteration}
 
 -- a curve, and what a search makes of its values
-pub record Search : Type 0 where
+pub record Rules : Type 0 where
   -- the curve at a point, where the mean is mu
   pub curve : Float → Float → Float
   -- whether the probability p and the value at a point have the root above it
@@ -32,51 +32,51 @@ pub record Search : Type 0 where
 
 -- ---- the loops
 
-abbrev pub upward_loop : Search → Float → Float → Loop Bracket (Option Bracket)
-upward_loop s mu p = record {
-  ask = λ x. s.curve x mu;
+abbrev pub upward_loop : Rules → Float → Float → Loop Bracket (Option Bracket)
+upward_loop r mu p = record {
+  ask = λ x. r.curve x mu;
   point = λ b. b.upper;
-  advance = s.widened p;
-  out = s.widest;
+  advance = r.widened p;
+  out = r.widest;
 }
 
-unfoldable pub upward : Search → Float → Float → Float → Counted (Option Bracket)
-upward s x mu p = iterate (upward_loop s mu p) doublings (go (s.from x))
+unfoldable pub upward : Rules → Float → Float → Float → Counted (Option Bracket)
+upward r x mu p = iterate (upward_loop r mu p) doublings (go (r.from x))
 
-abbrev pub downward_loop : Search → Float → Float → Loop Bracket Bracket
-downward_loop s mu p = record {
-  ask = λ x. s.curve x mu;
+abbrev pub downward_loop : Rules → Float → Float → Loop Bracket Bracket
+downward_loop r mu p = record {
+  ask = λ x. r.curve x mu;
   point = λ b. b.lower;
-  advance = s.lowered p;
+  advance = r.lowered p;
   out = λ b. b;
 }
 
-unfoldable pub downward : Search → Float → Float → Float → Counted Bracket
-downward s x mu p = iterate (downward_loop s mu p) halvings (halved x x)
+unfoldable pub downward : Rules → Float → Float → Float → Counted Bracket
+downward r x mu p = iterate (downward_loop r mu p) halvings (halved x x)
 
-abbrev pub narrowing_loop : Search → Float → Float → Loop (Bracket × Float) Float
-narrowing_loop s mu p = record {
-  ask = λ x. s.curve x mu;
+abbrev pub narrowing_loop : Rules → Float → Float → Loop (Bracket × Float) Float
+narrowing_loop r mu p = record {
+  ask = λ x. r.curve x mu;
   point = λ t. t.1;
-  advance = λ t v. s.iteration (inverse_gaussian_pdf t.1 mu) p t v;
+  advance = λ t v. r.iteration (inverse_gaussian_pdf t.1 mu) p t v;
   out = λ t. bracket_midpoint t.0;
 }
 
-unfoldable pub narrowing : Search → Float → Float → Bracket → Float → Counted Float
-narrowing s mu p b x = iterate (narrowing_loop s mu p) 64 (go (b, x))
+unfoldable pub narrowing : Rules → Float → Float → Bracket → Float → Counted Float
+narrowing r mu p b x = iterate (narrowing_loop r mu p) 64 (go (b, x))
 
 -- from a binary64 value that is finite and above 0 both searches for a bracket end within their iterations
-abbrev pub UpwardEnds : Search → Type 0
-UpwardEnds s = (mu p x : Float) → finite_positive x ≡ true → fits binary64 x ≡ true → Ends (upward_loop s mu p) doublings (go (s.from x))
+abbrev pub UpwardEnds : Rules → Type 0
+UpwardEnds r = (mu p x : Float) → finite_positive x ≡ true → fits binary64 x ≡ true → Ends (upward_loop r mu p) doublings (go (r.from x))
 
-abbrev pub DownwardEnds : Search → Type 0
-DownwardEnds s = (mu p x : Float) → finite_positive x ≡ true → fits binary64 x ≡ true → Ends (downward_loop s mu p) halvings (halved x x)
+abbrev pub DownwardEnds : Rules → Type 0
+DownwardEnds r = (mu p x : Float) → finite_positive x ≡ true → fits binary64 x ≡ true → Ends (downward_loop r mu p) halvings (halved x x)
 
 -- ---- the whole search
 
 -- a bracket on the side of x to which the value v there points
-unfoldable pub bracket_beside : Search → Float → Float → Float → Float → Counted (Option Bracket)
-bracket_beside s x v mu p = cond (s.above p v) (upward s x mu p) (some_of (downward s x mu p))
+unfoldable pub bracket_beside : Rules → Float → Float → Float → Float → Counted (Option Bracket)
+bracket_beside r x v mu p = cond (r.above p v) (upward r x mu p) (some_of (downward r x mu p))
 
 -- the search f in a bracket, and none where there is no bracket
 abbrev pub root_in : (Bracket → Counted Float) → Option Bracket → Counted (Option Float)
@@ -84,8 +84,8 @@ root_in f (some b) = some_of (f b)
 root_in f none = at_once none
 
 -- one evaluation at x, a bracket, and the iterations in it
-unfoldable pub search_from : Search → Float → Float → Float → Counted (Option Float)
-search_from s x mu p = tick (then (bracket_beside s x (s.curve x mu) mu p) (root_in (λ b. narrowing s mu p b (s.begin b x))))
+unfoldable pub root_from : Rules → Float → Float → Float → Counted (Option Float)
+root_from r x mu p = tick (then (bracket_beside r x (r.curve x mu) mu p) (root_in (λ b. narrowing r mu p b (r.begin b x))))
 
 -- ---- the two curves
 
@@ -94,7 +94,7 @@ abbrev pub stop_some : Next Bracket Bracket → Next Bracket (Option Bracket)
 stop_some (stop b) = stop (some b)
 stop_some (go b) = go b
 
-abbrev pub distribution : Search
+abbrev pub distribution : Rules
 distribution = record {
   curve = inverse_gaussian_cdf;
   above = λ p v. lt v p;
@@ -106,7 +106,7 @@ distribution = record {
   iteration = iteration;
 }
 
-abbrev pub survival : Search
+abbrev pub survival : Rules
 survival = record {
   curve = inverse_gaussian_survival;
   above = λ p v. lt p v;

@@ -102,7 +102,8 @@ pub none_of : {R : Type 0} {n : ℕ} (w : R) → spent ≡ limited n (tick (at_o
 none_of {n} w = by_allowance (λ m. spent ≡ m → n ≡ zero) n (tick (at_once w)) (λ h e. never (cc)) (λ h e. omega arith)
 
 -- after one evaluation was taken off, or was not, that of another value gives the same
-pub taken : {R Q : Type 0} (n : ℕ) (u : Q) {m : ℕ} {t : Q} {v w : R} → have t m ≡ limited n (tick (at_once u)) → v ≡ w → have v m ≡ limited n (tick (at_once w))
+pub taken : {R Q : Type 0} (n : ℕ) (u : Q) {m : ℕ} {t : Q} {v w : R} → have t m ≡ limited n (tick (at_once u)) → v ≡ w
+    → have v m ≡ limited n (tick (at_once w))
 taken n u {m} {v = v} {w} e h = let o = (value_of e).1 in rw (limited_enough n (tick (at_once w)) (omega arith), h) (ap (have w) (omega arith))
 
 pub not_taken : {R Q : Type 0} (n : ℕ) (u : Q) (w : R) → spent ≡ limited n (tick (at_once u)) → spent ≡ limited n (tick (at_once w))
@@ -128,7 +129,7 @@ count_le l zero (stop r) = zero-le
 count_le l (suc k) (go s) = suc-le-suc (count_le l k (step l s))
 count_le l (suc k) (stop r) = zero-le
 
-iterate_stop : {S R : Type 0} (l : Loop S R) (k : ℕ) (r : R) → iterate l k (stop r) ≡ at_once r
+pub iterate_stop : {S R : Type 0} (l : Loop S R) (k : ℕ) (r : R) → iterate l k (stop r) ≡ at_once r
 unfolding iterate
 iterate_stop l zero r = refl
 iterate_stop l (suc k) r = refl

@@ -1,14 +1,13 @@
--- `search::iterations` meets its contract. The invariant: what the definition gives for what was allowed is what it gives
+-- `search::Search::iterations` meets its contract. The invariant: what the definition gives for what was allowed is what it gives
 -- from here for what is left, in the iterations that are left. The measure is the iterations that are left. Assumes nothing.
-use mathlib.Core.Path.{refl, sym, ap}
+use mathlib.Core.Path.{refl, sym}
 use Prim.Native.Nat.{◌+◌, ◌-◌}
 use native.Mathlib.Omega.{arith}
 use Rattle.inverse_gaussian.specs.Internal.Bracketed.{narrowing}
-use Rattle.inverse_gaussian.specs.Internal.Searches.{view_flow}
-use Rattle.inverse_gaussian.specs.Laws.Counted.{left_at, left_out}
+use Rattle.inverse_gaussian.specs.Laws.Counted.{left_out}
 use Rattle.inverse_gaussian.specs.Laws.Metered.{passed_on}
 use Rattle.inverse_gaussian.proofs.Turns.{told, iterated, left_found, left_no_value}
-use Rattle.inverse_gaussian.proofs.search.iterations.Goals as goal
+use Rattle.inverse_gaussian.proofs.search.Search.iterations.Goals as goal
 
 pub loop-init : goal.loop-init
 unfolding narrowing
@@ -20,16 +19,13 @@ returns-in_err-evaluation-clause-metered g c =
 
 pub returns-in-Break-clause-metered : goal.returns-in-Break-clause-metered
 returns-in-Break-clause-metered g c = left_found
-    (iterated g.C.Curve.search _ _ (64 - (c.loop.counter + 1)) c.loop.invariant.0 (omega arith) (told c.in_ok-evaluation.ensures.metered)
-    (rw (c.value.ensures, c.density-pdf.ensures) at c.iteration.ensures))
-    (ap (view_flow (λ r. r)) c.in-Break.is)
+    (iterated g.C.Curve.rules _ _ (64 - (c.loop.counter + 1)) c.loop.invariant.0 (omega arith) (told c.in_ok-evaluation.ensures.metered)
+    (rw (c.value.ensures, c.density-pdf.ensures) at c.in-Break.ensures))
 
 pub loop-preserved : goal.loop-preserved
 loop-preserved g c = (
-  left_at
-      (iterated g.C.Curve.search _ _ (64 - (c.loop.counter + 1)) c.loop.invariant.0 (omega arith) (told c.in_ok-evaluation.ensures.metered)
-      (rw (c.value.ensures, c.density-pdf.ensures) at c.iteration.ensures))
-      (ap (view_flow (λ r. r)) c.in-Continue.is),
+  iterated g.C.Curve.rules _ _ _ c.loop.invariant.0 (omega arith) (told c.in_ok-evaluation.ensures.metered)
+      (rw (c.value.ensures, c.density-pdf.ensures) at c.in-Continue.ensures),
   omega arith,
 )
 

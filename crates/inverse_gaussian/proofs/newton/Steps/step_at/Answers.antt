@@ -1,8 +1,8 @@
--- `newton::step_at` meets its contract. Assumes nothing.
+-- `newton::Steps::step_at` meets its contract. Assumes nothing.
 use Rattle.inverse_gaussian.specs.Laws.Counted.{taken, not_taken}
 use Rattle.inverse_gaussian.specs.Laws.Metered.{passed_on}
 use Rattle.inverse_gaussian.proofs.Turns.{told}
-use Rattle.inverse_gaussian.proofs.newton.step_at.Goals as goal
+use Rattle.inverse_gaussian.proofs.newton.Steps.step_at.Goals as goal
 
 pub returns-in_err-evaluation-clause-metered : goal.returns-in_err-evaluation-clause-metered
 returns-in_err-evaluation-clause-metered c =

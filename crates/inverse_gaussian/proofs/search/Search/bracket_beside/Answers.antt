@@ -1,9 +1,9 @@
--- `search::bracket_beside` meets its contract. Assumes nothing.
+-- `search::Search::bracket_beside` meets its contract. Assumes nothing.
 use mathlib.Core.Path.{sym, ◌∙◌}
 use Rattle.inverse_gaussian.specs.Internal.Bracketed.{bracket_beside}
 use Rattle.inverse_gaussian.specs.Laws.Counted.{some_spent, some_have}
 use Rattle.inverse_gaussian.specs.Laws.Metered.{passed_on}
-use Rattle.inverse_gaussian.proofs.search.bracket_beside.Goals as goal
+use Rattle.inverse_gaussian.proofs.search.Search.bracket_beside.Goals as goal
 
 pub returns-then-root_is_above-clause-metered : goal.returns-then-root_is_above-clause-metered
 unfolding bracket_beside

@@ -44,41 +44,34 @@ fn layer2(function: u32, a: f64) -> f64 {
 
 mod layer4 {
     use crate::Reply;
-    use ours::inverse_gaussian::counted::Quantile;
-    use ours::inverse_gaussian::curves::{Allowance, Evaluation, SurvivalEvaluation};
+    use ours::inverse_gaussian::curves::{Allowance, Spent};
     use ours::inverse_gaussian::{curves, quantile, survival};
 
     const ALLOWED: u64 = 2263;
 
-    fn evaluation(result: Evaluation) -> Reply {
+    fn value(result: Result<f64, Spent>) -> Reply {
         match result {
-            Evaluation::Value { cdf, .. } => Reply::value(cdf),
-            Evaluation::Spent => Reply::Spent,
+            Ok(value) => Reply::value(value),
+            Err(Spent) => Reply::Spent,
         }
     }
 
-    fn survival_evaluation(result: SurvivalEvaluation) -> Reply {
+    fn root(result: Result<Option<f64>, Spent>, allowed: Allowance) -> Reply {
+        let count = ALLOWED - allowed.left();
         match result {
-            SurvivalEvaluation::Value { survival, .. } => Reply::value(survival),
-            SurvivalEvaluation::Spent => Reply::Spent,
-        }
-    }
-
-    fn root(result: Quantile) -> Reply {
-        match result {
-            Quantile::Root(root, left) => Reply::root(root, ALLOWED - left.left()),
-            Quantile::None(left) => Reply::NoRoot { count: ALLOWED - left.left() },
-            Quantile::Spent => Reply::Spent,
+            Ok(Some(root)) => Reply::root(root, count),
+            Ok(None) => Reply::NoRoot { count },
+            Err(Spent) => Reply::Spent,
         }
     }
 
     pub fn reply(function: u32, a: f64, b: f64) -> Reply {
-        let allowed = Allowance::new(ALLOWED);
+        let mut allowed = Allowance::new(ALLOWED);
         match function {
-            20 => evaluation(curves::inverse_gaussian_cdf(a, b, allowed)),
-            21 => survival_evaluation(curves::inverse_gaussian_survival(a, b, allowed)),
-            22 => root(quantile::inverse_gaussian_quantile(a, b, allowed)),
-            _ => root(survival::inverse_gaussian_quantile_from_survival(a, b, allowed)),
+            20 => value(curves::inverse_gaussian_cdf(a, b, &mut allowed).map(|evaluation| evaluation.value)),
+            21 => value(curves::inverse_gaussian_survival(a, b, &mut allowed).map(|evaluation| evaluation.value)),
+            22 => root(quantile::inverse_gaussian_quantile(a, b, &mut allowed), allowed),
+            _ => root(survival::inverse_gaussian_quantile_from_survival(a, b, &mut allowed), allowed),
         }
     }
 }
@@ -88,7 +81,7 @@ pub mod quotes {
 }
 
 pub mod sheets {
-    use ours::xdr_sheet::printing::{Progress, fill, start};
+    use ours::xdr_sheet::printing::{fill, start};
     use std::io::{self, Read, Write};
 
     /// The bytes of the program's buffer.
@@ -98,7 +91,7 @@ pub mod sheets {
     pub fn print() {
         let (mut sheet, mut out, mut progress) = (Vec::new(), [0; BUFFER], start());
         io::stdin().lock().read_to_end(&mut sheet).expect("standard input can be read");
-        while let Progress::Tallied(_) = progress {
+        while progress.is_some() {
             let filled = fill(&sheet, progress, &mut out);
             io::stdout().write_all(&out[..filled.count]).expect("standard output can be written");
             progress = filled.next;
@@ -109,7 +102,7 @@ pub mod sheets {
 pub mod ladders {
     use oracle::ladder::{Lent, Reply};
     use oracle::ladder_inputs::Ladder;
-    use ours::ladder::ladder::{LadderReply, implied_black_volatility_ladder};
+    use ours::ladder::ladder::implied_black_volatility_ladder;
 
     pub fn solved(l: &Ladder, lent: &mut Lent) -> Reply {
         let Lent { totals, volatilities, counts, refusals } = lent;
@@ -126,8 +119,8 @@ pub mod ladders {
             refusals,
         );
         match reply {
-            LadderReply::Solved { roots } => Reply::Solved { roots },
-            LadderReply::Refusal { number, count } => Reply::Refusal { number, count },
+            Ok(roots) => Reply::Solved { roots },
+            Err(refused) => Reply::Refusal { number: refused.refusal.number(), count: refused.count },
         }
     }
 }
@@ -152,14 +145,8 @@ pub mod windows {
 
     /// Writes to a window that is lent; what is handed back, and the bytes after it.
     pub fn write(window: &mut Window, WordWrite { offset, word }: WordWrite) -> (u32, [u8; 64]) {
-        let number = window::write(window, offset, word);
+        let number = window.write(offset, word).map_or_else(|refusal| refusal.number(), |()| 0);
         (number, window.bytes())
-    }
-
-    /// The same by value.
-    pub fn written(window: Window, WordWrite { offset, word }: WordWrite) -> (u32, [u8; 64]) {
-        let written = window::written(window, offset, word);
-        (written.number, written.window.bytes())
     }
 
     pub fn after_writes(offsets: &[u32], words: &[u32]) -> [u8; 64] {

@@ -67,17 +67,14 @@ impl Seen {
     }
 }
 
-/// A write to our window and to the oracle's, lent and by value.
+/// A write to our window and to the oracle's.
 fn one_write(tally: &mut Tally, seen: &mut Seen, mine: &mut ours::Window, right: &mut Window, write: WordWrite) {
     announce(right, write);
     let before = *right;
-    let by_value = ours::written(*mine, write);
-    let lent = ours::write(mine, write);
+    let found = ours::write(mine, write);
     let number = right.write(write.offset, write.word);
     let theirs = (number, right.bytes());
-    for found in [lent, by_value] {
-        tally.note(found == theirs, || [fields(&before, write), told(found), told(theirs)]);
-    }
+    tally.note(found == theirs, || [fields(&before, write), told(found), told(theirs)]);
     seen.add(write, number, right);
 }
 

@@ -1,6 +1,6 @@
 // A sheet: an unsigned count, then for each quote an unsigned side and the doubles price, forward,
 // strike, time and factor.
-ghost use Rattle.std.specs.Prelude.{◌≡◌, ◌+◌, ◌≤◌, ◌<◌, ◌^◌, length};
+ghost use Rattle.std.specs.Prelude.{◌≡◌, ◌+◌, ◌≤◌, length};
 ghost use Rattle.explicit_black.specs.Replies.{view_reply};
 ghost use Rattle.xdr_sheet.specs.Sheet.{quote_bytes, size, reply_from, sheet_reply};
 ghost use Rattle.xdr_sheet.specs.Replies.{terms_at, view_size, view_sheet_reply};

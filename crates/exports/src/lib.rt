@@ -139,11 +139,9 @@ pub extern "C" fn quoter_negative_abs_log_moneyness(f: f64, k: f64) -> f64
 pub extern "C" fn quoter_inverse_gaussian_cdf(x: f64, mu: f64) -> f64
     ensures { result ≡ inverse_gaussian_cdf x mu }
 {
-    match inverse_gaussian::curves::inverse_gaussian_cdf(x, mu, &mut Allowance::new(1)) {
-        Ok(evaluation) => evaluation.value,
-        // never: the one evaluation that it makes is allowed
-        Err(_) => 0.0,
-    }
+    // the one evaluation that it makes is allowed
+    let evaluation = inverse_gaussian::curves::inverse_gaussian_cdf(x, mu, &mut Allowance::new(1));
+    evaluation.unwrap().value
 }
 
 #[tactic(auto, using(inverse_gaussian::specs::Laws::Counted::first_value, inverse_gaussian::specs::Laws::Counted::first_spent))]
@@ -151,11 +149,13 @@ pub extern "C" fn quoter_inverse_gaussian_cdf(x: f64, mu: f64) -> f64
 pub extern "C" fn quoter_inverse_gaussian_survival(x: f64, mu: f64) -> f64
     ensures { result ≡ inverse_gaussian_survival x mu }
 {
-    match inverse_gaussian::curves::inverse_gaussian_survival(x, mu, &mut Allowance::new(1)) {
-        Ok(evaluation) => evaluation.value,
-        // never: the one evaluation that it makes is allowed
-        Err(_) => 0.0,
-    }
+    // the one evaluation that it makes is allowed
+    let evaluation = inverse_gaussian::curves::inverse_gaussian_survival(
+        x,
+        mu,
+        &mut Allowance::new(1),
+    );
+    evaluation.unwrap().value
 }
 
 // Writes a reply to the caller's places. A refusal writes its count and leaves the two figures as they were.

@@ -3,7 +3,7 @@ use Rattle.std.proofs.Common.{◌≡◌, ℕ, suc, ◌+◌, ◌-◌, ◌*◌, �
 use mathlib.Core.Bool.{false≢true}
 use borrow.Author.Tests.{lt-leb}
 use denote.Floats.{passes}
-use lib.Ieee.{Float, nan, inf, fin, binary64, up, down, minus, round, sum, add, sub, mul, of_int, fits, is_nan, lt, eq, le, to_bits, of_bits}
+use lib.Ieee.{Float, nan, inf, fin, binary64, up, down, minus, round, sum, add, sub, mul, of_int, fits, is_nan, lt, eq, le, ne, to_bits, of_bits}
 use lib.Ieee.Fits.{down_pos, add-fits}
 use lib.Ieee.Bits.{of_bits-to_bits}
 use lib.Ieee.Order.{round_mono}
@@ -15,6 +15,7 @@ use Rattle.arithmetic.specs.Exp.{ln2_hi as H, ln2_lo as L}
 use Rattle.arithmetic.specs.Ln.{G1, G2, G3, G4, G5, G6, G7, series, ln, from_least, to_most, ln1p}
 use Rattle.arithmetic.specs.Internal.Ln.{significand_of_bits, exponent_of_bits}
 use Rattle.arithmetic.specs.Laws.Numbers.{lt_or_le, false_not}
+use Rattle.arithmetic.specs.Laws.Signs.{is_nan_lem}
 use Rattle.arithmetic.specs.Laws.Times.{cross, has_sign, has_finite}
 use Rattle.arithmetic.specs.Laws.Compare.{above_zero, not_le, finite_no_nan}
 use Rattle.arithmetic.specs.Laws.Logarithm.{DecomposedBy, raised, normal_bits, subnormal_bits, raised_positive, decomposed_normal, decomposed_subnormal}
@@ -74,12 +75,18 @@ absorbed s g o e kl f h n = rw (n, sum_nan g, product_nan s)
 abbrev pub odd_terms : Float → Float
 odd_terms f = let s = f ⊘ (two ⊕ f) in let z = s ⊗ s in let w = z ⊗ z in z ⊗ (G1 ⊕ w ⊗ (G3 ⊕ w ⊗ (G5 ⊕ w ⊗ G7)))
 
-pub series_nan : (f k kl : Float) → true ≡ is_nan (odd_terms f) → odd_terms f ≡ series f k kl
+series_of_nan : (f k kl : Float) → odd_terms f ≡ nan → odd_terms f ≡ series f k kl
 unfolding series
-series_nan f k kl n =
+series_of_nan f k kl n =
     let s = f ⊘ (two ⊕ f) in
     let w = s ⊗ s ⊗ (s ⊗ s) in
-    absorbed s (half ⊗ f ⊗ f) (odd_terms f) (w ⊗ (G2 ⊕ w ⊗ (G4 ⊕ w ⊗ G6))) kl f (k ⊗ H) (nan_of (odd_terms f) n)
+    absorbed s (half ⊗ f ⊗ f) (odd_terms f) (w ⊗ (G2 ⊕ w ⊗ (G4 ⊕ w ⊗ G6))) kl f (k ⊗ H) n
+
+pub series_nan : (f k kl : Float) → ne (odd_terms f) (odd_terms f) ≡ true → odd_terms f ≡ series f k kl
+series_nan f k kl n = series_of_nan f k kl (is_nan_lem (odd_terms f) n)
+
+pub series_is_nan : (f k kl : Float) → true ≡ is_nan (odd_terms f) → odd_terms f ≡ series f k kl
+series_is_nan f k kl n = series_of_nan f k kl (nan_of (odd_terms f) n)
 
 -- ---- `ln`, by its tests
 zero_times : plus_zero ≡ plus_zero ⊗ L

@@ -115,11 +115,11 @@ impl Leading {
     fn closest(self, q: u64) -> u64
         ensures { Closest self.w result }
     {
-        let above = std::num::wrapping_add_u64(q, 1);
+        let above = q.wrapping_add(1);
         if self.is_closest(above) {
             return above;
         }
-        let below = std::num::wrapping_sub_u64(q, 1);
+        let below = q.wrapping_sub(1);
         if self.is_closest(below) {
             return below;
         }
@@ -142,12 +142,12 @@ fn estimate(b: u64) -> u64 {
     let t4 = ((p.c4 as u64) * h) >> HALF_WORD_OF_C4;
     let t5 = ((p.c5 as u64) * h4) >> HALF_WORD;
     let t6 = ((p.c6 as u64) * h4) >> HALF_WORD;
-    let b1 = std::num::wrapping_add_u64(p.c1, t5);
-    let b2 = std::num::wrapping_add_u64(p.c2, t6);
-    let b3 = std::num::wrapping_sub_u64(p.c3, t4);
-    let near = std::num::wrapping_sub_u64(pair::high(b1, u), pair::high(b2, u2));
-    let far = std::num::wrapping_add_u64(p.c0, pair::high(b3, u3));
-    std::num::wrapping_add_u64(near, far) >> DIGITS_BELOW_ROOT
+    let b1 = p.c1.wrapping_add(t5);
+    let b2 = p.c2.wrapping_add(t6);
+    let b3 = p.c3.wrapping_sub(t4);
+    let near = pair::high(b1, u).wrapping_sub(pair::high(b2, u2));
+    let far = p.c0.wrapping_add(pair::high(b3, u3));
+    near.wrapping_add(far) >> DIGITS_BELOW_ROOT
 }
 
 // The root of the normal x above 0 with pattern b.

@@ -166,14 +166,14 @@ fn b1(a: f64, h2: f64) -> f64
     mul_add2_sel(a, 3.0 + h2, -1.0) / 3.0
 }
 
-#[tactic(auto, unfolding(crate::specs::BsOptionPrice::b2))]
+#[tactic(auto, unfolding(crate::specs::BsOptionPrice::b2, crate::specs::BsOptionPrice::b, special_function::specs::Polynomial::nested, special_function::specs::Polynomial::evaluate))]
 fn b2(a: f64, h2: f64) -> f64
     ensures { result ≡ b2 a h2 }
 {
-    mul_add2_sel(nested(h2, &[10.0 + h2, 15.0]), a, -7.0 - h2) / 60.0
+    b(a, h2, &[10.0 + h2, 15.0], &[-7.0 - h2], 60.0)
 }
 
-// What b3 to b6 share: a polynomial of h2 times a, plus another, over a divisor.
+// What b2 to b6 share: a polynomial of h2 times a, plus another, over a divisor.
 #[tactic(auto, unfolding(crate::specs::BsOptionPrice::b))]
 fn b(a: f64, h2: f64, factor: &[f64], rest: &[f64], divisor: f64) -> f64
     ensures { result ≡ b a h2 factor.now rest.now divisor }

@@ -97,11 +97,8 @@ pub(crate) fn reply(
             count,
         }),
         Err(Unsolved::Refused(refusal)) => Err(Refused { refusal, count }),
-        // never: `LeftWithin` says that the allowance was not spent
-        Err(Unsolved::Spent) => Err(Refused {
-            refusal: Refusal::NoVolatility,
-            count,
-        }),
+        // `LeftWithin` says that the allowance was not spent
+        Err(Unsolved::Spent) => unreachable!(),
     }
 }
 

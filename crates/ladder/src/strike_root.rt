@@ -4,7 +4,7 @@ ghost use Rattle.arithmetic.specs.Sqrt.{sqrt};
 
 use arithmetic::sqrt::sqrt;
 
-// How many strike roots were taken. Its field is private, so that no other code makes one but by `none` and `take`.
+// How many strike roots were taken. Its field is private: no other code makes one but by `none`, or changes it but by `take`.
 #[derive(Drop)]
 pub struct StrikeRoots {
     taken: u64,

@@ -54,22 +54,19 @@ impl From<[u8; HEAD_BYTES]> for Head {
     }
 }
 
-// Reads doubles into the first `count` places of a buffer. `None`: there are not so many places, or doubles.
+// Reads as many doubles as there are places, and no more than `count`. `None`: there are not so many places, or doubles.
 fn read_doubles<'a>(
     input: &mut impl Read,
     buffer: &'a mut [f64],
     count: usize,
 ) -> io::Result<Option<&'a [f64]>> {
-    let Some(places) = buffer.get_mut(..count) else {
-        return Ok(None);
-    };
-    for place in places.iter_mut() {
+    for place in buffer.iter_mut().take(count) {
         let Some(bytes) = read_record::<_, DOUBLE_BYTES>(input)? else {
             return Ok(None);
         };
         *place = double(&bytes, 0);
     }
-    Ok(Some(places))
+    Ok(buffer.get(..count))
 }
 
 // Solves a ladder and writes its lines. `None`: a slice would be longer than the buffers. The lent slices hold other values before.

@@ -32,7 +32,7 @@ pub enum Outcome {
     Replied(Reply),
 }
 
-// A record: the number of a function, and three doubles, of which it takes the first.
+// A record: the number of a function, and three doubles, of which it takes the first, the first two or all.
 #[derive(Clone, Copy)]
 struct Call {
     number: u32,

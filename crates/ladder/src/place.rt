@@ -50,7 +50,8 @@ impl Shared {
         };
         terms.first_refusal(price)?;
         let intrinsic = terms.intrinsic_value();
-        if let Some(total) = bound_tests(price, intrinsic, terms.price_bound(), self.time)? {
+        let tested = bound_tests(price, intrinsic, terms.price_bound(), self.time);
+        if let Some(total) = tested? {
             return Ok(Answer {
                 total,
                 volatility: volatility(total, self.time, self.root_time),

@@ -21,7 +21,7 @@ ghost use Rattle.cable_window.specs.Window.{offset_refusal, after_write};
 ghost use Rattle.xdr_sheet.specs.Sheet.{size, sheet_reply};
 ghost use Rattle.xdr_sheet.specs.Tally.{tally_of};
 ghost use Rattle.exports.specs.ToC.{handed_reply, reply_to_c, sheet_reply_to_c, handed_price, price_to_c, handed_ladder, ladder_to_c};
-ghost use Rattle.exports.specs.ToC.{handed_size, size_to_c, tally_after, handed_line, line_to_c};
+ghost use Rattle.exports.specs.ToC.{handed_size, size_to_c, handed_line, line_to_c};
 
 use cable_window::window::Window;
 use explicit_black::quote::Reply;

@@ -1,0 +1,2 @@
+-- What C is handed of a line.
+mod SheetLine

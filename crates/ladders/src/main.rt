@@ -126,6 +126,7 @@ fn answer_ladder(rt: &impl Print, input: &mut impl Read) -> io::Result<Option<()
 fn main(rt: HostRuntime) -> io::Result<()> {
     let mut input = rt.stdin();
     let answers = from_fn(|| answer_ladder(&rt, &mut input).transpose());
+    // no input has so many: a `for` is to have an end
     for answer in answers.take(usize::MAX) {
         answer?;
     }

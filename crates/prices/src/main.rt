@@ -14,6 +14,7 @@ fn main(rt: HostRuntime) -> io::Result<()> {
     let mut input = rt.stdin();
     let numbers = successors(RecordNumber::first(), |number| number.after());
     let records = from_fn(|| read_record::<_, RECORD_BYTES>(&mut input).transpose());
+    // no input has so many: a `for` is to have an end
     for (number, record) in numbers.zip(records).take(usize::MAX) {
         let line = price_line(number, price_reply(&record?));
         rt.write_all(line.as_slice())?;

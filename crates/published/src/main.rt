@@ -43,6 +43,7 @@ fn quantity(number: u64, x: f64) -> Option<f64> {
 fn main(rt: HostRuntime) -> io::Result<()> {
     let mut input = rt.stdin();
     let lines = from_fn(|| read_record::<_, LINE_BYTES>(&mut input).transpose());
+    // no input has so many: a `for` is to have an end
     for line in lines.take(usize::MAX) {
         let request = Request::from(line?);
         let value = quantity(request.quantity, request.argument);

@@ -125,6 +125,7 @@ impl Call {
 fn main(rt: HostRuntime) -> io::Result<()> {
     let mut input = rt.stdin();
     let records = from_fn(|| read_record(&mut input).transpose());
+    // no input has so many: a `for` is to have an end
     for record in records.take(usize::MAX) {
         let Some(outcome) = Call::from(record?).outcome() else {
             break;

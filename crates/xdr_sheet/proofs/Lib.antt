@@ -4,3 +4,4 @@ pub mod Cases
 pub mod Patterns
 pub mod Digits
 pub mod Words
+mod Lines

@@ -1,7 +1,7 @@
 // Records of a fixed length, from a reader.
 #![tactic(auto)]
 
-ghost use Rattle.std.specs.Prelude.{◌≡◌, true, IfOk, IfSome};
+ghost use Rattle.std.specs.Prelude.{◌≡◌, ℕ, List, true, Some, IfOk};
 ghost use Rattle.std.specs.Io.KnownBytes.{Consumes};
 
 pub mod bits;
@@ -22,7 +22,7 @@ pub fn read_whole<R: Read>(input: &mut R, bytes: &mut [u8]) -> io::Result<bool>
 
 // The next record, or `None` where the reader ends inside it or before it.
 pub fn read_record<R: Read, const N: usize>(input: &mut R) -> io::Result<Option<[u8; N]>>
-    ensures { IfOk result (λ found. IfSome found (λ bytes. Consumes (R.remaining input.old) (R.remaining input.new) bytes)) }
+    ensures { IfOk result (λ found. (bytes : List ℕ) → found ≡ Some bytes → Consumes (R.remaining input.old) (R.remaining input.new) bytes) }
 {
     let mut record = [0u8; N];
     Ok(read_whole(input, &mut record)?.then_some(record))

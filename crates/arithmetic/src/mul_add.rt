@@ -43,10 +43,10 @@ const TIE: u64 = 2;
 
 // An operand: the sign, and the magnitude m * 2^j.
 #[derive(Clone, Copy)]
-struct Parts {
-    negative: bool,
-    m: u64,
-    j: Exponent,
+pub struct Parts {
+    pub negative: bool,
+    pub m: u64,
+    pub j: Exponent,
     ghost small: { m < 2 ^ 53 },
     ghost exponent: { OperandExponent j.value },
     ghost lead: { (0 < above 1074 j.value → 2 ^ 52 ≤ m) },
@@ -62,10 +62,10 @@ struct Term {
 
 // Two magnitudes on one scale: a * 2^e and b * 2^e.
 #[derive(Clone, Copy)]
-struct Terms {
-    a: Pair,
-    b: Pair,
-    e: Exponent,
+pub struct Terms {
+    pub a: Pair,
+    pub b: Pair,
+    pub e: Exponent,
     ghost small_a: { val a < 2 ^ 127 },
     ghost small_b: { val b < 2 ^ 127 },
     ghost exponent: { TermExponent e.value },
@@ -73,9 +73,9 @@ struct Terms {
 
 // m / 4 * 2^k, for an m of at most 55 digits: the last two are the guard digit and the sticky digit.
 #[derive(Clone, Copy)]
-struct Guarded {
-    m: u64,
-    k: Exponent,
+pub struct Guarded {
+    pub m: u64,
+    pub k: Exponent,
     ghost short: { m < 2 ^ 55 },
     ghost exponent: { KeptExponent k.value },
     ghost lead: { (0 < above 1074 k.value → 2 ^ 54 ≤ m) },

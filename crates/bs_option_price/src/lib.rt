@@ -113,10 +113,18 @@ impl AsymptoticExpansion {
         if idx >= THRESHOLDS.len() {
             return 0.0;
         }
-        let mut omega = 0.0;
-        for n in 0..THRESHOLDS.len() {
-            omega = self.term(idx, n, omega);
-        }
+        let omega = self.term(idx, 0, 0.0);
+        let omega = self.term(idx, 1, omega);
+        let omega = self.term(idx, 2, omega);
+        let omega = self.term(idx, 3, omega);
+        let omega = self.term(idx, 4, omega);
+        let omega = self.term(idx, 5, omega);
+        let omega = self.term(idx, 6, omega);
+        let omega = self.term(idx, 7, omega);
+        let omega = self.term(idx, 8, omega);
+        let omega = self.term(idx, 9, omega);
+        let omega = self.term(idx, 10, omega);
+        let omega = self.term(idx, 11, omega);
         self.q * omega
     }
 

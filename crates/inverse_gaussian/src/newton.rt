@@ -83,30 +83,6 @@ impl Newton {
     }
 }
 
-// The step that would bring `error` to 0 where the density is `pdf`.
-#[tactic(auto, unfolding(crate::specs::Newton::nrstep))]
-pub fn nrstep(pdf: f64, error: f64) -> Newton
-    ensures { view_newton result ≡ nrstep pdf error }
-{
-    if is_finite_positive(pdf) {
-        return Newton::Move(error / pdf);
-    }
-    Newton::Refused
-}
-
-#[tactic(auto, unfolding(crate::specs::Newton::inverse_gaussian_mode_standardized))]
-pub fn inverse_gaussian_mode_standardized(phi: f64) -> f64
-    ensures { result ≡ inverse_gaussian_mode_standardized phi }
-{
-    let kappa = 1.5 * phi;
-    if kappa <= LARGE_KAPPA_THRESHOLD {
-        // the conjugate form: sqrt(1 + kappa^2) - kappa would lose digits
-        return recip(sqrt(1.0 + kappa * kappa) + kappa);
-    }
-    let reciprocal = 0.5 / kappa;
-    reciprocal * (1.0 - reciprocal * reciprocal)
-}
-
 // The steps to the point, divided by mu, where the distribution with mean mu has the probability.
 #[derive(Clone, Copy)]
 struct Steps {
@@ -210,4 +186,28 @@ pub fn inverse_gaussian_quantile_actuar(
         ControlFlow::Break(root) => Ok(root),
         ControlFlow::Continue(next) => steps.after_first(next, allowed),
     }
+}
+
+#[tactic(auto, unfolding(crate::specs::Newton::inverse_gaussian_mode_standardized))]
+pub fn inverse_gaussian_mode_standardized(phi: f64) -> f64
+    ensures { result ≡ inverse_gaussian_mode_standardized phi }
+{
+    let kappa = 1.5 * phi;
+    if kappa <= LARGE_KAPPA_THRESHOLD {
+        // the conjugate form: sqrt(1 + kappa^2) - kappa would lose digits
+        return recip(sqrt(1.0 + kappa * kappa) + kappa);
+    }
+    let reciprocal = 0.5 / kappa;
+    reciprocal * (1.0 - reciprocal * reciprocal)
+}
+
+// The step that would bring `error` to 0 where the density is `pdf`.
+#[tactic(auto, unfolding(crate::specs::Newton::nrstep))]
+pub fn nrstep(pdf: f64, error: f64) -> Newton
+    ensures { view_newton result ≡ nrstep pdf error }
+{
+    if is_finite_positive(pdf) {
+        return Newton::Move(error / pdf);
+    }
+    Newton::Refused
 }

@@ -86,7 +86,10 @@ pub(crate) struct Search {
 
 impl Search {
     // Doubles from the start until the root is no longer above the bracket.
-    fn from_below<C: Curve>(self, allowed: &mut Allowance) -> Result<Option<Bracket>, Spent>
+    fn bracket_quantile_from_below<C: Curve>(
+        self,
+        allowed: &mut Allowance,
+    ) -> Result<Option<Bracket>, Spent>
         ensures metered { metered view_option result allowed.new.left ≡ limited allowed.old.left (upward C.rules self.start self.mu self.probability) }
         ensures spent { OnErr result (allowed.new.left ≡ 0) }
     {
@@ -101,7 +104,10 @@ impl Search {
     }
 
     // Halves from the start until the root is no longer below the bracket.
-    fn from_above<C: Curve>(self, allowed: &mut Allowance) -> Result<Bracket, Spent>
+    fn bracket_quantile_from_above<C: Curve>(
+        self,
+        allowed: &mut Allowance,
+    ) -> Result<Bracket, Spent>
         ensures metered { metered (λ b. b) result allowed.new.left ≡ limited allowed.old.left (downward C.rules self.start self.mu self.probability) }
         ensures spent { OnErr result (allowed.new.left ≡ 0) }
     {
@@ -128,9 +134,9 @@ impl Search {
         ensures spent { OnErr result (allowed.new.left ≡ 0) }
     {
         if C::root_is_above(value, self.probability) {
-            return self.from_below::<C>(allowed);
+            return self.bracket_quantile_from_below::<C>(allowed);
         }
-        Ok(Some(self.from_above::<C>(allowed)?))
+        Ok(Some(self.bracket_quantile_from_above::<C>(allowed)?))
     }
 
     // At most 64 iterations, after which the midpoint is the root.

@@ -7,14 +7,14 @@ use Rattle.inverse_gaussian.proofs.search.Search.bracket_beside.Goals as goal
 
 pub returns-then-root_is_above-clause-metered : goal.returns-then-root_is_above-clause-metered
 unfolding bracket_beside
-returns-then-root_is_above-clause-metered g c = rw (c.from_below.ensures.metered, sym c.root_is_above.ensures ∙ c.if-root_is_above.true)
+returns-then-root_is_above-clause-metered g c = rw (c.bracket_quantile_from_below.ensures.metered, sym c.root_is_above.ensures ∙ c.if-root_is_above.true)
 
-pub returns-in_err-from_above-clause-metered : goal.returns-in_err-from_above-clause-metered
+pub returns-in_err-bracket_quantile_from_above-clause-metered : goal.returns-in_err-bracket_quantile_from_above-clause-metered
 unfolding bracket_beside
-returns-in_err-from_above-clause-metered g c =
+returns-in_err-bracket_quantile_from_above-clause-metered g c =
     rw (sym c.root_is_above.ensures ∙ c.if-root_is_above.false)
-    (passed_on _ _ _ c.from_residual.ensures.0 (some_spent _ _ c.in_err-from_above.ensures.metered))
+    (passed_on _ _ _ c.from_residual.ensures.0 (some_spent _ _ c.in_err-bracket_quantile_from_above.ensures.metered))
 
 pub returns-clause-metered : goal.returns-clause-metered
 unfolding bracket_beside
-returns-clause-metered g c = rw (sym c.root_is_above.ensures ∙ c.if-root_is_above.false) (some_have _ _ _ _ c.in_ok-from_above.ensures.metered)
+returns-clause-metered g c = rw (sym c.root_is_above.ensures ∙ c.if-root_is_above.false) (some_have _ _ _ _ c.in_ok-bracket_quantile_from_above.ensures.metered)

@@ -1,4 +1,4 @@
--- `search::Search::from_above` meets its contract. The invariant: what the definition gives for what was allowed is what it
+-- `search::Search::bracket_quantile_from_above` meets its contract. The invariant: what the definition gives for what was allowed is what it
 -- gives from here for what is left; and from here it ends within its turns. The measure is what is left. Assumes nothing.
 use mathlib.Core.Path.{ap}
 use Rattle.inverse_gaussian.specs.Internal.Bracketed.{downward}
@@ -6,7 +6,7 @@ use Rattle.inverse_gaussian.specs.Internal.Searches.{view_flow}
 use Rattle.inverse_gaussian.specs.Laws.Counted.{carried, carried_at, carried_spent, fewer}
 use Rattle.inverse_gaussian.specs.Laws.Metered.{passed_on}
 use Rattle.inverse_gaussian.proofs.Turns.{told, turned, found}
-use Rattle.inverse_gaussian.proofs.search.Search.from_above.Goals as goal
+use Rattle.inverse_gaussian.proofs.search.Search.bracket_quantile_from_above.Goals as goal
 
 pub loop-next-init : goal.loop-next-init
 unfolding downward

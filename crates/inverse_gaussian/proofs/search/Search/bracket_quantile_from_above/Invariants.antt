@@ -3,7 +3,7 @@ use Rattle.inverse_gaussian.specs.Bracket.{halvings}
 use Rattle.inverse_gaussian.specs.Internal.Bracketed.{downward_loop, downward}
 use Rattle.inverse_gaussian.specs.Internal.Searches.{view_flow}
 use Rattle.inverse_gaussian.specs.Laws.Counted.{Carried}
-use Rattle.inverse_gaussian.proofs.search.Search.from_above.Given as goal
+use Rattle.inverse_gaussian.proofs.search.Search.bracket_quantile_from_above.Given as goal
 
 abbrev pub invariant-loop-next : goal.invariant-loop-next
 invariant-loop-next g l =

@@ -1,10 +1,10 @@
--- `search::Search::from_below` meets its contract. The invariant: what the definition gives for what was allowed is what it
+-- `search::Search::bracket_quantile_from_below` meets its contract. The invariant: what the definition gives for what was allowed is what it
 -- gives from here for what is left; and from here it ends within its turns. The measure is what is left. Assumes nothing.
 use Rattle.inverse_gaussian.specs.Internal.Bracketed.{upward}
 use Rattle.inverse_gaussian.specs.Laws.Counted.{carried, carried_spent, fewer}
 use Rattle.inverse_gaussian.specs.Laws.Metered.{passed_on}
 use Rattle.inverse_gaussian.proofs.Turns.{told, turned, found}
-use Rattle.inverse_gaussian.proofs.search.Search.from_below.Goals as goal
+use Rattle.inverse_gaussian.proofs.search.Search.bracket_quantile_from_below.Goals as goal
 
 pub loop-value-init : goal.loop-value-init
 unfolding upward

@@ -3,7 +3,7 @@ use Rattle.inverse_gaussian.specs.Loops.{go}
 use Rattle.inverse_gaussian.specs.Bracket.{doublings}
 use Rattle.inverse_gaussian.specs.Internal.Bracketed.{upward_loop, upward}
 use Rattle.inverse_gaussian.specs.Laws.Counted.{Carried}
-use Rattle.inverse_gaussian.proofs.search.Search.from_below.Given as goal
+use Rattle.inverse_gaussian.proofs.search.Search.bracket_quantile_from_below.Given as goal
 
 abbrev pub invariant-loop-value : goal.invariant-loop-value
 invariant-loop-value g l =

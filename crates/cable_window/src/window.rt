@@ -1,7 +1,6 @@
 // The window: command, status, a quote, and the results of the last solve. The host writes command and quote.
 ghost use Rattle.std.specs.Prelude.{◌≡◌, ◌+◌, ◌≤◌};
-ghost use Rattle.explicit_black.specs.Internal.Quote.{view_refusal};
-ghost use Rattle.explicit_black.specs.Replies.{view_reply};
+ghost use Rattle.explicit_black.specs.Replies.{view_reply, view_refusal};
 ghost use Rattle.cable_window.specs.Window.{window_bytes, zeros, with_word, with_hyper, window_reply, with_results, cleared, solved, commanded};
 ghost use Rattle.cable_window.specs.Window.{writable, offset_refusal, after_write, after_writes, writes};
 

@@ -1,6 +1,7 @@
 -- Which number and values each case of an entry's reply stands for (REQUIREMENTS 13.4): the entries' contracts speak through it. Definitions only.
-use Rattle.std.specs.Prelude.{Float, Result, Ok, Err}
+use Rattle.std.specs.Prelude.{ℕ, Float, Result, Ok, Err}
 use Rattle.explicit_black.specs.declared.quote.Answer.{Answer}
+use Rattle.explicit_black.specs.declared.refusal.Refusal.{Refusal}
 use Rattle.explicit_black.specs.declared.refusal.Refused.{Refused}
 use Rattle.explicit_black.specs.Refusal.{number}
 use Rattle.explicit_black.specs.Quote.{Reply, answer, refusal}
@@ -15,3 +16,8 @@ view_reply (Err r) = refusal (number r.refusal) r.count
 abbrev pub view_price_reply : Result Float Refused → PriceReply
 view_price_reply (Ok p) = price p
 view_price_reply (Err r) = refusal_of_price (number r.refusal) r.count
+
+-- the number of the first test that applies, or 0
+abbrev pub view_refusal : Result Unit Refusal → ℕ
+view_refusal (Ok _) = 0
+view_refusal (Err r) = number r

@@ -2,8 +2,8 @@
 ghost use Rattle.std.specs.Prelude.{◌≡◌, IsErrOf};
 ghost use Rattle.inverse_gaussian.specs.Counted.{limited};
 ghost use Rattle.explicit_black.specs.Discount.{discounted_refusal, from_discounted_quote, implied_black_volatility_discounted};
-ghost use Rattle.explicit_black.specs.Internal.Quote.{view_refusal, view_solved};
-ghost use Rattle.explicit_black.specs.Replies.{view_reply};
+ghost use Rattle.explicit_black.specs.Internal.Quote.{view_solved};
+ghost use Rattle.explicit_black.specs.Replies.{view_reply, view_refusal};
 
 use crate::quote::{MAX_EVALUATIONS, Reply, Unsolved, from_figures, reply};
 use crate::refusal::Refusal;

@@ -1,8 +1,7 @@
 // The price entry: the price of a volatility, or why it is refused.
 ghost use Rattle.std.specs.Prelude.{◌≡◌};
 ghost use Rattle.explicit_black.specs.Price.{price_refusal, time_value, price_of, black_price};
-ghost use Rattle.explicit_black.specs.Internal.Quote.{view_refusal};
-ghost use Rattle.explicit_black.specs.Replies.{view_price_reply};
+ghost use Rattle.explicit_black.specs.Replies.{view_price_reply, view_refusal};
 
 use crate::refusal::{Refusal, Refused};
 use crate::terms::OptionTerms;

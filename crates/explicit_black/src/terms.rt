@@ -1,6 +1,6 @@
 // What a quote and a price have in common.
 ghost use Rattle.std.specs.Prelude.{◌≡◌};
-ghost use Rattle.explicit_black.specs.Internal.Quote.{view_refusal};
+ghost use Rattle.explicit_black.specs.Replies.{view_refusal};
 ghost use Rattle.explicit_black.specs.Quote.{first_refusal, intrinsic_value, price_bound};
 
 use crate::refusal::Refusal;

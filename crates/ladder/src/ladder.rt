@@ -1,6 +1,6 @@
 // The entry: lengths are tested, then each place's quote is solved and written.
 ghost use Rattle.std.specs.Prelude.{◌≡◌, length, Ok};
-ghost use Rattle.explicit_black.specs.Internal.Quote.{view_refusal};
+ghost use Rattle.explicit_black.specs.Replies.{view_refusal};
 ghost use Rattle.ladder.specs.Ladder.{length_refusal, solved_ladder, ladder};
 ghost use Rattle.ladder.specs.Replies.{view_ladder};
 

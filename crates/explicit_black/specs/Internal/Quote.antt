@@ -9,11 +9,6 @@ use Rattle.explicit_black.specs.Refusal.{number}
 use Rattle.inverse_gaussian.specs.Counted.{Option, some, none, Counted, Metered, have, spent, limited}
 use Rattle.explicit_black.specs.Quote.{Outcome, total, refused, Reply, reply_over}
 
--- the number of the first test that applies, or 0
-abbrev pub view_refusal : Result Unit Refusal → ℕ
-view_refusal (Ok _) = 0
-view_refusal (Err r) = number r
-
 -- an outcome
 abbrev pub view_outcome : Result Float Refusal → Outcome
 view_outcome (Ok v) = total v

@@ -4,7 +4,7 @@ ghost use Rattle.std.specs.Prelude.{◌<◌, ◌≤◌};
 use arithmetic::basic::trunc;
 use arithmetic::mul_add::mul_add;
 use std::io::Result;
-use std::num::{nearest_u64_to_f64, saturating_f64_to_u64};
+use std::num::{nearest_u64_to_f64, truncating_f64_to_u64};
 
 pub const LINE_BYTES: usize = 11;
 
@@ -72,7 +72,7 @@ fn nearest(x: f64, scale: f64) -> f64 {
 pub fn units(value: f64, decimals: u64) -> Option<u64> {
     let rounded = nearest(value, nearest_u64_to_f64(scale(decimals)));
     if rounded > -1.0 && rounded < 18446744073709551616.0 {
-        Some(saturating_f64_to_u64(rounded))
+        Some(truncating_f64_to_u64(rounded))
     } else {
         None
     }

@@ -10,7 +10,6 @@ ghost use Rattle.xdr_sheet.specs.Internal.Lines.{written, bytes_placed, buffer_a
 use crate::price_record::RecordNumber;
 use crate::tally::Tally;
 use crate::xdr::pattern;
-use arrayvec::ArrayVec;
 use explicit_black::price::PriceReply;
 use explicit_black::quote::{Answer, Reply};
 
@@ -20,10 +19,11 @@ const DECIMAL_DIGITS: usize = 20;
 
 const HEXADECIMAL_DIGITS: usize = 16;
 
-// What is written of a line.
-#[derive(Drop)]
+// Its text is the first `length` of the bytes; those after it are no part of the line, whatever they are.
+#[derive(Clone, Copy)]
 pub struct Line {
-    text: ArrayVec<u8, LINE_BYTES>,
+    bytes: [u8; LINE_BYTES],
+    length: usize,
 }
 
 impl Line {
@@ -31,7 +31,8 @@ impl Line {
         ensures { written result ≡ [] }
     {
         Line {
-            text: ArrayVec::new(),
+            bytes: [0; LINE_BYTES],
+            length: 0,
         }
     }
 
@@ -45,19 +46,30 @@ impl Line {
         line
     }
 
+    // How many bytes its text has.
+    pub fn count(self) -> usize
+        ensures text { result ≡ length (written self) }
+        ensures fits { result ≤ line_bytes }
+    {
+        self.length.min(LINE_BYTES)
+    }
+
     // Its text.
     pub fn as_slice(&self) -> &[u8]
         ensures text { result.now ≡ written self.now }
         ensures fits { length result.now ≤ line_bytes }
     {
-        self.text.as_slice()
+        &self.bytes[..self.count()]
     }
 
     fn bytes(&mut self, s: &[u8])
         requires { length (written self.old) + length s.now ≤ line_bytes }
         ensures { written self.new ≡ written self.old ++ s.now }
     {
-        self.text.try_extend_from_slice(s).unwrap();
+        let start = self.count();
+        let end = start + s.len();
+        self.bytes[start..end].copy_from_slice(s);
+        self.length = end;
     }
 
     #[tactic(auto, using(crate::proofs::Digits::decimal_is))]

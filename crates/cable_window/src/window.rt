@@ -72,62 +72,64 @@ impl Window {
     }
 
     #[tactic(auto, using(crate::proofs::Steps::word_put))]
-    fn put_word(&mut self, at: usize, word: u32)
+    fn with_word(mut self, at: usize, word: u32) -> Window
         requires { at + 4 ≤ window_bytes }
-        ensures { self.new.bytes ≡ with_word self.old.bytes at word }
+        ensures { result.bytes ≡ with_word self.bytes at word }
     {
         self.bytes[at..at + WORD_BYTES].copy_from_slice(&word.to_be_bytes());
+        self
     }
 
     #[tactic(auto, using(crate::proofs::Steps::hyper_put))]
-    fn put_hyper(&mut self, at: usize, n: u64)
+    fn with_hyper(mut self, at: usize, n: u64) -> Window
         requires { at + 8 ≤ window_bytes }
-        ensures { self.new.bytes ≡ with_hyper self.old.bytes at n }
+        ensures { result.bytes ≡ with_hyper self.bytes at n }
     {
         self.bytes[at..at + HYPER_BYTES].copy_from_slice(&n.to_be_bytes());
+        self
     }
 
     // The reply to the quote whose figures stand in the window.
     #[tactic(auto, unfolding(crate::specs::Window::window_reply))]
-    fn reply(&self) -> Reply
-        ensures { view_reply result ≡ window_reply self.now.bytes }
+    fn reply(self) -> Reply
+        ensures { view_reply result ≡ window_reply self.bytes }
     {
         implied_black_volatility_input(terms(&self.bytes, SIDE), double(&self.bytes, PRICE))
     }
 
     // What a solve writes, the figures by their bits.
     #[tactic(auto, unfolding(crate::specs::Window::with_results))]
-    fn put_results(&mut self, status: u32, total: u64, volatility: u64, count: u32)
-        ensures { self.new.bytes ≡ with_results self.old.bytes status total volatility count }
+    fn with_results(self, status: u32, total: u64, volatility: u64, count: u32) -> Window
+        ensures { result.bytes ≡ with_results self.bytes status total volatility count }
     {
-        self.put_word(STATUS, status);
-        self.put_hyper(TOTAL, total);
-        self.put_hyper(VOLATILITY, volatility);
-        self.put_word(COUNT, count);
+        self.with_word(STATUS, status)
+            .with_hyper(TOTAL, total)
+            .with_hyper(VOLATILITY, volatility)
+            .with_word(COUNT, count)
     }
 
     // Bit 1 of the command clears the interrupt.
     #[tactic(auto, unfolding(crate::specs::Window::cleared))]
-    fn clear(&mut self, command: u32)
-        ensures { self.new.bytes ≡ cleared self.old.bytes command }
+    fn cleared(self, command: u32) -> Window
+        ensures { result.bytes ≡ cleared self.bytes command }
     {
         if command / 2 % 2 == 0 {
-            return;
+            return self;
         }
         let status = unsigned(&self.bytes, STATUS);
-        self.put_word(STATUS, status - status / INTERRUPT % 2 * INTERRUPT);
+        self.with_word(STATUS, status - status / INTERRUPT % 2 * INTERRUPT)
     }
 
     // Bit 0 of the command solves. The figures of a refusal are zeros.
     #[tactic(auto, unfolding(crate::specs::Window::solved))]
-    fn solve(&mut self, command: u32)
-        ensures { self.new.bytes ≡ solved self.old.bytes command }
+    fn solved(self, command: u32) -> Window
+        ensures { result.bytes ≡ solved self.bytes command }
     {
         if command % 2 == 0 {
-            return;
+            return self;
         }
         match self.reply() {
-            Ok(answer) => self.put_results(
+            Ok(answer) => self.with_results(
                 ANSWERED_STATUS,
                 pattern(answer.total),
                 pattern(answer.volatility),
@@ -135,19 +137,17 @@ impl Window {
             ),
             Err(refused) => {
                 let status = REFUSED_STATUS + refused.refusal.number() * NUMBER;
-                self.put_results(status, 0, 0, refused.count as u32);
+                self.with_results(status, 0, 0, refused.count as u32)
             }
         }
     }
 
     // The interrupt is cleared first, then the quote is solved; afterwards the command reads as 0, whatever its other bits were.
     #[tactic(auto, unfolding(crate::specs::Window::commanded))]
-    fn command(&mut self, command: u32)
-        ensures { self.new.bytes ≡ commanded self.old.bytes command }
+    fn commanded(self, command: u32) -> Window
+        ensures { result.bytes ≡ commanded self.bytes command }
     {
-        self.clear(command);
-        self.solve(command);
-        self.put_word(COMMAND, 0);
+        self.cleared(command).solved(command).with_word(COMMAND, 0)
     }
 
     // The window after a write of a word, by value.
@@ -155,13 +155,13 @@ impl Window {
     fn after_write(self, offset: u32, word: u32) -> Window
         ensures { result.bytes ≡ after_write self.bytes offset word }
     {
-        let mut after = self;
         if offset == 0 {
-            after.command(word);
+            self.commanded(word)
         } else if is_writable(offset) {
-            after.put_word(offset as usize, word);
+            self.with_word(offset as usize, word)
+        } else {
+            self
         }
-        after
     }
 
     // A write of a word to a window that is lent. Where the offset is refused the window is not touched.

@@ -1,6 +1,6 @@
--- `Window::solve` meets its contract: a reply fits, so that its count is a word. Assumes nothing.
+-- `Window::solved` meets its contract: a reply fits, so that its count is a word. Assumes nothing.
 use Rattle.cable_window.proofs.Steps.{found_fits}
-use Rattle.cable_window.proofs.window.Window.solve.Goals as goal
+use Rattle.cable_window.proofs.window.Window.solved.Goals as goal
 
 pub overflow_cast-answer : goal.overflow_cast-answer
 overflow_cast-answer c = record { fits = found_fits _ c.in-Ok.ensures }

@@ -1,4 +1,4 @@
--- For the inner functions of src/: which outcome or number, in the types of the definitions, each case of what they hand back stands for, and what they
+-- For the inner functions of src/: which outcome, in the types of the definitions, each case of what they hand back stands for, and what they
 -- promise of the allowance. No entry's contract cites these. Definitions only.
 use Rattle.std.specs.Prelude.{◌≡◌, ℕ, ◌≤◌, Float, Ok, Err, Result}
 use Rattle.std.specs.Prelude.{Option as Decided, Some, None}

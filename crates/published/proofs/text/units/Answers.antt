@@ -1,4 +1,4 @@
--- The two tests are what the cast to an integer asks.
+-- The two tests are what the cast to an integer asks. Assumes nothing.
 use Rattle.std.proofs.Common.{T, sym, subst}
 use lib.Ieee.{of_bits, neg}
 use Rattle.published.proofs.text.units.Goals as goal
